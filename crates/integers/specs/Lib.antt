@@ -1,0 +1,3 @@
+-- Signed numbers in the machine.
+pub mod Machine
+pub mod Mapping

@@ -1,0 +1,10 @@
+-- `read_field` meets its contract: one law for each answer.
+use borrow.Author.Needs.{needs}
+use Rattle.wire.specs.Fields.{field-got, field-low, field-high, field-unread}
+use Rattle.wire.proofs.field.read_field.Statement.{statement}
+use Rattle.wire.proofs.field.read_field.Tie as tie
+
+ruleset laws = (needs, field-got, field-low, field-high, field-unread)
+
+pub read-field-spec : {M : Type 1} → statement M
+read-field-spec = tie.close (tie.spec (λ c κs. search laws) (λ c. search laws) (λ c. search laws) (λ c. search laws) (λ c. search laws) (λ c. search laws) (λ c. search laws))

@@ -1,0 +1,7 @@
+-- The answers of the readers, and the laws that their proofs cite.
+pub mod Answers
+pub mod Groups
+pub mod Fields
+pub mod Places
+pub mod Numbers
+pub mod Clear

@@ -1,0 +1,62 @@
+// Rows of signed numbers, read into lent slots.
+ghost use mathlib.Core.Path.{_≡_};
+ghost use Prim.Native.Nat.{_+_, _≤_};
+ghost use lib.IntN.{pos};
+ghost use lib.ListN.{length, drop, replicate};
+ghost use Rattle.rules.specs.Number.{times, signedField};
+ghost use Rattle.wire.specs.Answers.{signedRefusal};
+ghost use Rattle.wire.specs.Numbers.{Stored};
+use crate::field::Signed;
+use crate::field::read_signed;
+
+// The place after what was read, or the refusal.
+pub enum Place {
+    Next(usize),
+    Refused(u8),
+}
+
+// The refusal of an answer that is one, and 0 of a number.
+fn signed_refusal(answer: Signed) -> u8
+    ensures { λ r. ⌜ r ≡ signedRefusal answer ⌝ }
+{
+    match answer {
+        Signed::Got(_, _) => 0,
+        Signed::Refused(k) => k,
+    }
+}
+
+// Every slot becomes 0.
+pub fn clear(out: &mut [i64])
+    ensures { λ _. ⌜ now (out .exit) ≡ replicate (length (now (out .entry))) (pos 0) ⌝ }
+{
+    let mut i = 0;
+    while i < out.len() {
+        out[i] = 0;
+        i += 1;
+    }
+}
+
+// So many signed numbers, each at most so far from 0, into the slots from `first` on. What was stored before a refusal stays: the callers
+// clear it.
+pub fn read_numbers(
+    bytes: &[u8],
+    at: usize,
+    most: u64,
+    out: &mut [i64],
+    first: usize,
+    count: usize,
+) -> Place
+    requires { ⌜ (at ≤ length (now bytes)) × (first + count ≤ length (now out)) ⌝ }
+    ensures { λ r. ⌜ Stored (now (bytes .entry)) first (now (out .entry)) (times count (signedField most) (drop at (now (bytes .entry)))) r (now (out .exit)) ⌝ }
+{
+    if count == 0 {
+        return Place::Next(at);
+    }
+    let answer = read_signed(bytes, at, most);
+    let Signed::Got(z, next) = answer else {
+        let refusal = signed_refusal(answer);
+        return Place::Refused(refusal);
+    };
+    out[first] = z;
+    read_numbers(bytes, next, most, out, first + 1, count - 1)
+}
