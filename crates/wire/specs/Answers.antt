@@ -8,6 +8,8 @@ use Rattle.wire.specs.declared.number.Number.{Number}
 use Rattle.wire.specs.declared.number.Number.the-variants as number
 use Rattle.wire.specs.declared.field.Signed.{Signed}
 use Rattle.wire.specs.declared.field.Signed.the-variants as signed
+use Rattle.wire.specs.declared.numbers.Place.{Place}
+use Rattle.wire.specs.declared.numbers.Place.the-variants as place
 
 -- the place in these bytes at which so many are left
 abbrev pub placeOf : List ℕ → List ℕ → ℕ
@@ -29,3 +31,7 @@ refusalIn (number.Refused k) = k
 abbrev pub signedRefusal : Signed → ℕ
 signedRefusal (signed.Got z next) = 0
 signedRefusal (signed.Refused k) = k
+
+abbrev pub placeRefusal : Place → ℕ
+placeRefusal (place.Next next) = 0
+placeRefusal (place.Refused k) = k

@@ -5,3 +5,5 @@ pub mod Fields
 pub mod Places
 pub mod Numbers
 pub mod Clear
+pub mod Rows
+pub mod Openings

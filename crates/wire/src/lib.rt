@@ -3,3 +3,4 @@
 pub mod field;
 pub mod number;
 pub mod numbers;
+pub mod opening;

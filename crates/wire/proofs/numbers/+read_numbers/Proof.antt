@@ -56,5 +56,4 @@ pub +read-numbers-spec : {M : Type 1} → statement M
     let b = c .before .before .before in
     let e = b .before .before .before .before in
     let a = e .before .before .args in
-    stored-more (a .bytes .now) (a .at) (a .most) (a .first) (a .count) (a .out .now) (b .before .before .before .read-signed .ensures) (e .if1 .left)
-    (c .before .read-numbers .result) (c .before .read-numbers .last .1 .1 .1 .0) (b .before .answer .given .1) (back _ (b .known-told .given .0 .1)) (c .before .read-numbers .ensures))
+    stored-more (a .bytes .now) (a .at) (a .most) (a .first) (a .count) (a .out .now) (b .before .before .before .read-signed .ensures) (e .if1 .left) (b .before .answer .given .1) (back _ (b .known-told .given .0 .1)) (c .before .read-numbers .ensures))
