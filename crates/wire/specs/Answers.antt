@@ -8,8 +8,8 @@ use Rattle.wire.specs.declared.number.Number.{Number}
 use Rattle.wire.specs.declared.number.Number.the-variants as number
 use Rattle.wire.specs.declared.field.Signed.{Signed}
 use Rattle.wire.specs.declared.field.Signed.the-variants as signed
-use Rattle.wire.specs.declared.numbers.Place.{Place}
-use Rattle.wire.specs.declared.numbers.Place.the-variants as place
+use Rattle.wire.specs.declared.place.Place.{Place}
+use Rattle.wire.specs.declared.place.Place.the-variants as place
 
 -- the place in these bytes at which so many are left
 abbrev pub placeOf : List ℕ → List ℕ → ℕ

@@ -13,8 +13,8 @@ use Rattle.wire.specs.Answers.{placeOf, asSigned, signedRefusal}
 use Rattle.wire.specs.Places.{place-after, at-place, signed-read, signed-refused}
 use Rattle.wire.specs.declared.field.Signed.{Signed}
 use Rattle.wire.specs.declared.field.Signed.the-variants as signed
-use Rattle.wire.specs.declared.numbers.Place.{Place}
-use Rattle.wire.specs.declared.numbers.Place.the-variants.{Next, Refused}
+use Rattle.wire.specs.declared.place.Place.{Place}
+use Rattle.wire.specs.declared.place.Place.the-variants.{Next, Refused}
 
 -- the numbers stand in the slots from `first` on, and the others as they were; after a refusal nothing is said of the slots but their number
 abbrev pub Slots : List ℕ → ℕ → List ℤ → Read (List ℤ) → Place → List ℤ → Type 0
@@ -25,8 +25,8 @@ pub record Stored (bytes : List ℕ) (first : ℕ) (out : List ℤ) (x : Read (L
   pub is : Slots bytes first out x r out′
 
 module _ (bytes : List ℕ) (at most first count : ℕ) (out : List ℤ) where
-  pub stored-none : count ≡ 0 → at ≤ length bytes → Stored bytes first out (times count (signedField most) (drop at bytes)) (Next at) out
-  stored-none e h = record { is = rw e (ap Next (sym (place-after bytes at h)), refl) }
+  pub stored-none : count ≡ 0 → (count ≡ 0 → at ≤ length bytes) → Stored bytes first out (times count (signedField most) (drop at bytes)) (Next at) out
+  stored-none e h = record { is = rw e (ap Next (sym (place-after bytes at (h e))), refl) }
 
   module _ {answer : Signed} (from : answer ≡ asSigned bytes (signedField most (drop at bytes))) (some-left : count ≡ 0 → ⊥) where
     one-more : count ≡ suc (count - 1)

@@ -19,8 +19,8 @@ use Rattle.wire.specs.Places.{number-read, number-refused, place-after}
 use Rattle.wire.specs.Rows.{flat, with, times-flat}
 use Rattle.wire.specs.declared.number.Number.{Number}
 use Rattle.wire.specs.declared.number.Number.the-variants.{Got, Refused}
-use Rattle.wire.specs.declared.numbers.Place.{Place}
-use Rattle.wire.specs.declared.numbers.Place.the-variants as place
+use Rattle.wire.specs.declared.place.Place.{Place}
+use Rattle.wire.specs.declared.place.Place.the-variants as place
 
 -- these numbers, and 0 in the slots after them
 abbrev pub slots : ℕ → List ℤ → List ℤ

@@ -2,5 +2,6 @@
 // next place, or the refusal.
 pub mod field;
 pub mod number;
-pub mod numbers;
+mod numbers;
 pub mod opening;
+pub mod place;

@@ -8,12 +8,7 @@ ghost use Rattle.wire.specs.Answers.{signedRefusal};
 ghost use Rattle.wire.specs.Numbers.{Stored};
 use crate::field::Signed;
 use crate::field::read_signed;
-
-// The place after what was read, or the refusal.
-pub enum Place {
-    Next(usize),
-    Refused(u8),
-}
+use crate::place::Place;
 
 // The refusal of an answer that is one, and 0 of a number.
 fn signed_refusal(answer: Signed) -> u8
@@ -46,7 +41,7 @@ pub fn read_numbers(
     first: usize,
     count: usize,
 ) -> Place
-    requires { ⌜ (at ≤ length (now bytes)) × (first + count ≤ length (now out)) ⌝ }
+    requires { ⌜ (count ≡ 0 → at ≤ length (now bytes)) ⌝ ∗ ⌜ first + count ≤ length (now out) ⌝ }
     ensures { λ r. ⌜ Stored (now (bytes .entry)) first (now (out .entry)) (times count (signedField most) (drop at (now (bytes .entry)))) r (now (out .exit)) ⌝ }
 {
     if count == 0 {

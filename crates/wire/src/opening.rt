@@ -2,23 +2,13 @@
 ghost use mathlib.Core.Path.{_≡_};
 ghost use lib.ListN.{drop};
 ghost use Rattle.rules.specs.Record.{opening};
-ghost use Rattle.wire.specs.Answers.{placeRefusal};
 ghost use Rattle.wire.specs.Openings.{asOpening, coefficientsOf, valuesOf};
 use crate::field::read_field;
 use crate::number::Number;
-use crate::numbers::Place;
 use crate::numbers::clear;
 use crate::numbers::read_numbers;
-
-// The refusal of an answer that is one, and 0 of a place.
-fn place_refusal(answer: Place) -> u8
-    ensures { λ r. ⌜ r ≡ placeRefusal answer ⌝ }
-{
-    match answer {
-        Place::Next(_) => 0,
-        Place::Refused(k) => k,
-    }
-}
+use crate::place::Place;
+use crate::place::place_refusal;
 
 // The measure count and the place after the opening; the coefficients of measure m stand from slot 8 * m on. Slots past the count are 0, and
 // after a refusal every slot is.

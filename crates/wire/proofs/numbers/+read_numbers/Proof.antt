@@ -47,7 +47,7 @@ pub +read-numbers-spec : {M : Type 1} → statement M
     let a = s .args in (
       omega (arith, s .pre .0, e .if1 .left),
       (
-        read-within (a .bytes .now) (a .at) (a .most) (c .before .before .before .before .read-signed .ensures) (c .before .before .answer .given .1),
+        λ _. read-within (a .bytes .now) (a .at) (a .most) (c .before .before .before .before .read-signed .ensures) (c .before .before .answer .given .1),
         simp length-set (omega (arith, e .if1 .left, s .pre .1 .1)),
       ),
     ))

@@ -36,7 +36,7 @@ mul-numbers c = omega (arith, within c .0)
 read-numbers-requires : tie.Need-read-numbers-requires
 read-numbers-requires c κs =
     let w = within (c .before) in
-    (w .1, omega (arith, w .0, ap length (zero-c (c .before .before .before .before .before .before .before)), length-replicate 128 (pos 0)))
+    (λ _. w .1, omega (arith, w .0, ap length (zero-c (c .before .before .before .before .before .before .before)), length-replicate 128 (pos 0)))
 
 returns-2 : tie.Need-returns-2
 returns-2 c =
@@ -59,7 +59,7 @@ rows-in : (m : tie.After-known-told2) → ReadInto (cleared-at m .before .before
 rows-in m = stored-next (counted-at m .before .answer .given .0 .1 .0) 100 (counted-at m .before .answer .given .0 .0 * 8) (m .before .before .before .read-numbers .ensures) (m .before .rows .given .1)
 
 read-numbers-requires-2 : tie.Need-read-numbers-requires-2
-read-numbers-requires-2 c κs = (rows-in (c .before) .within, omega (arith, ap length (zero-v (cleared-at (c .before))), length-replicate 8 (pos 0)))
+read-numbers-requires-2 c κs = (λ _. rows-in (c .before) .within, omega (arith, ap length (zero-v (cleared-at (c .before))), length-replicate 8 (pos 0)))
 
 returns-3 : tie.Need-returns-3
 returns-3 c =
