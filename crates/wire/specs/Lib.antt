@@ -7,3 +7,4 @@ pub mod Numbers
 pub mod Clear
 pub mod Rows
 pub mod Openings
+pub mod Heads

@@ -2,7 +2,7 @@
 ghost use mathlib.Core.Path.{_≡_};
 ghost use lib.ListN.{drop};
 ghost use Rattle.rules.specs.Number.{field, below, signedField};
-ghost use Rattle.wire.specs.Answers.{asNumber, asSigned, refusalIn};
+ghost use Rattle.wire.specs.Answers.{asNumber, asSigned, refusalIn, signedRefusal};
 use crate::number::Number;
 use crate::number::read_number;
 use integers::signed_of;
@@ -20,6 +20,16 @@ pub fn refusal_of(answer: Number) -> u8
     match answer {
         Number::Got(_, _) => 0,
         Number::Refused(k) => k,
+    }
+}
+
+// The refusal of an answer that is one, and 0 of a number.
+pub fn signed_refusal(answer: Signed) -> u8
+    ensures { λ r. ⌜ r ≡ signedRefusal answer ⌝ }
+{
+    match answer {
+        Signed::Got(_, _) => 0,
+        Signed::Refused(k) => k,
     }
 }
 

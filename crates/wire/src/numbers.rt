@@ -4,21 +4,11 @@ ghost use Prim.Native.Nat.{_+_, _≤_};
 ghost use lib.IntN.{pos};
 ghost use lib.ListN.{length, drop, replicate};
 ghost use Rattle.rules.specs.Number.{times, signedField};
-ghost use Rattle.wire.specs.Answers.{signedRefusal};
 ghost use Rattle.wire.specs.Numbers.{Stored};
 use crate::field::Signed;
 use crate::field::read_signed;
+use crate::field::signed_refusal;
 use crate::place::Place;
-
-// The refusal of an answer that is one, and 0 of a number.
-fn signed_refusal(answer: Signed) -> u8
-    ensures { λ r. ⌜ r ≡ signedRefusal answer ⌝ }
-{
-    match answer {
-        Signed::Got(_, _) => 0,
-        Signed::Refused(k) => k,
-    }
-}
 
 // Every slot becomes 0.
 pub fn clear(out: &mut [i64])
