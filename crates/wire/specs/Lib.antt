@@ -8,3 +8,4 @@ pub mod Clear
 pub mod Rows
 pub mod Openings
 pub mod Heads
+pub mod Waits

@@ -6,3 +6,4 @@ pub mod number;
 mod numbers;
 pub mod opening;
 pub mod place;
+pub mod wait;
