@@ -3,6 +3,7 @@ pub mod Answers
 pub mod Groups
 pub mod Fields
 pub mod Places
+pub mod Into
 pub mod Numbers
 pub mod Clear
 pub mod Rows

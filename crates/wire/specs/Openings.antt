@@ -6,7 +6,7 @@ use native.Mathlib.Nat.{zero-add, sub-zero, zero-sub, suc-sub-suc}
 use native.Mathlib.Omega.{arith}
 use lib.IntN.{ℤ, pos}
 use lib.ListN.{length, drop, replicate, length-replicate}
-use lib.Seq.{sets, sets-eq, length-sets}
+use lib.Seq.{sets, sets-eq}
 use Rattle.rules.specs.Limits.{variables, measuresMost}
 use Rattle.rules.specs.Number.{Read, read, refused, field, times, signedField}
 use Rattle.rules.specs.Record.{coefficient, value, opening}
@@ -14,7 +14,8 @@ use Rattle.rules.specs.Room.{Room, opened}
 use Rattle.rules.specs.Laws.Readers.{Sound, sound-field, sound-times}
 use Rattle.rules.specs.Laws.WellFormed.{sound-coefficient}
 use Rattle.wire.specs.Answers.{placeOf, asNumber, placeRefusal}
-use Rattle.wire.specs.Numbers.{Stored, ReadInto, stored-no}
+use Rattle.wire.specs.Into.{Into, told-no}
+use Rattle.wire.specs.Numbers.{ReadInto, putNumbers, put-sets, numbers-sound}
 use Rattle.wire.specs.Places.{number-read, number-refused, place-after}
 use Rattle.wire.specs.Rows.{flat, with, times-flat}
 use Rattle.wire.specs.declared.number.Number.{Number}
@@ -107,29 +108,23 @@ module _ (bytes : List ℕ) (at : ℕ) where
       module _ {zeros zeros′ : List ℤ} (zero-c : zeros ≡ replicate 128 (pos 0)) (zero-v : zeros′ ≡ replicate 8 (pos 0)) where
         pub opening-read : {after end : ℕ} {cs vs : List ℤ} → ReadInto bytes next 100 0 (count * 8) after zeros cs → ReadInto bytes after 1_000_000 0 8 end zeros′ vs → Opens (Got count end) cs vs
         opening-read {after} {end} {cs} {vs} c v =
-            let o = all-read after (c .reads) end (v .numbers) (v .reads) (v .within) in
-            let few : length (c .numbers) ≤ 128 = omega (arith, c .many, count-within .0) in
-            let cs-are : cs ≡ slots 128 (c .numbers) = c .slots ∙ ap (λ z. sets z 0 (c .numbers)) zero-c ∙ stored-slots 128 (c .numbers) few in
-            let none-after : _≡_ {A = ℕ} (8 - length (v .numbers)) 0 = omega (arith, v .many) in
-            let vs-are : vs ≡ v .numbers =
-            v .slots ∙ ap (λ z. sets z 0 (v .numbers)) zero-v ∙ stored-slots 8 (v .numbers) (omega (arith, v .many))
-            ∙ ap (λ n. v .numbers ++ replicate n (pos 0)) none-after ∙ append-nil (v .numbers) in
+            let o = all-read after (c .reads) end (v .what) (v .reads) (v .within) in
+            let few : length (c .what) ≤ 128 = omega (arith, c .good .0, count-within .0) in
+            let cs-are : cs ≡ slots 128 (c .what) = c .slots ∙ put-sets 0 zeros (c .what) ∙ ap (λ z. sets z 0 (c .what)) zero-c ∙ stored-slots 128 (c .what) few in
+            let none-after : _≡_ {A = ℕ} (8 - length (v .what)) 0 = omega (arith, v .good .0) in
+            let vs-are : vs ≡ v .what =
+            v .slots ∙ put-sets 0 zeros′ (v .what) ∙ ap (λ z. sets z 0 (v .what)) zero-v ∙ stored-slots 8 (v .what) (omega (arith, v .good .0))
+            ∙ ap (λ n. v .what ++ replicate n (pos 0)) none-after ∙ append-nil (v .what) in
             (o .0, cs-are ∙ o .1, vs-are ∙ o .2)
 
-        pub opening-no-values : {after k j : ℕ} {row : Place} {cs vs vs′ cs′ vs″ : List ℤ} → ReadInto bytes next 100 0 (count * 8) after zeros cs → Stored bytes 0 vs (times 8 (signedField 1_000_000) (drop after bytes)) row vs′ → row ≡ place.Refused k →
-            j ≡ placeRefusal row → cs′ ≡ replicate (length cs) (pos 0) → vs″ ≡ replicate (length vs′) (pos 0) → length vs ≡ 8 → Opens (Refused j) cs′ vs″
-        opening-no-values {after} {k} {j} {row} {cs} {vs} {vs′} c s e q zc zv lv =
-            let n = stored-no after 1_000_000 8 s e in
-            let o = refused-opens {k = k} (values-refused after (c .reads) (n .0)) (zc ∙ ap (λ m. replicate m (pos 0)) lc) (zv ∙ ap (λ m. replicate m (pos 0)) (n .1 ∙ lv)) in
+        pub opening-no-values : {after k j : ℕ} {row : Place} {cs vs vs′ cs′ vs″ : List ℤ} → ReadInto bytes next 100 0 (count * 8) after zeros cs → Into (putNumbers 0) bytes vs (times 8 (signedField 1_000_000) (drop after bytes)) row vs′ → row ≡ place.Refused k →
+            j ≡ placeRefusal row → cs′ ≡ replicate 128 (pos 0) → vs″ ≡ replicate 8 (pos 0) → Opens (Refused j) cs′ vs″
+        opening-no-values {after} {k} {j} c s e q zc zv =
+            let o = refused-opens {k = k} (values-refused after (c .reads) (told-no (numbers-sound 8 1_000_000) after s e)) zc zv in
             (ap Refused (q ∙ ap placeRefusal e) ∙ o .0, o .1, o .2)
-          where
-            lc : length cs ≡ 128
-            lc = ap length (c .slots) ∙ length-sets zeros 0 (c .numbers) ∙ ap length zero-c ∙ length-replicate 128 (pos 0)
 
-        pub opening-no-rows : {k j : ℕ} {rows : Place} {cs cs′ : List ℤ} → Stored bytes 0 zeros (times (count * 8) (signedField 100) (drop next bytes)) rows cs → rows ≡ place.Refused k →
-            j ≡ placeRefusal rows → cs′ ≡ replicate (length cs) (pos 0) → Opens (Refused j) cs′ zeros′
-        opening-no-rows {k} {j} {rows} {cs} s e q zc =
-            let n = stored-no next 100 (count * 8) s e in
-            let lc : length cs ≡ 128 = n .1 ∙ ap length zero-c ∙ length-replicate 128 (pos 0) in
-            let o = refused-opens {k = k} (rows-refused (n .0)) (zc ∙ ap (λ m. replicate m (pos 0)) lc) zero-v in
+        pub opening-no-rows : {k j : ℕ} {rows : Place} {cs cs′ : List ℤ} → Into (putNumbers 0) bytes zeros (times (count * 8) (signedField 100) (drop next bytes)) rows cs → rows ≡ place.Refused k →
+            j ≡ placeRefusal rows → cs′ ≡ replicate 128 (pos 0) → Opens (Refused j) cs′ zeros′
+        opening-no-rows {k} {j} s e q zc =
+            let o = refused-opens {k = k} (rows-refused (told-no (numbers-sound (count * 8) 100) next s e)) zc zero-v in
             (ap Refused (q ∙ ap placeRefusal e) ∙ o .0, o .1, o .2)

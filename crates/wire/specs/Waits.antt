@@ -5,14 +5,14 @@ use Prim.Native.Nat.{ℕ, suc, _+_, _*_, _≤_, _<_}
 use native.Mathlib.Omega.{arith}
 use lib.IntN.{ℤ}
 use lib.ListN.{length, drop, set}
-use lib.Seq.{sets}
 use Rattle.rules.specs.Limits.{operatorMost}
 use Rattle.rules.specs.Number.{Read, read, refused, Reader, pure, after, times, field, below, signedField}
 use Rattle.rules.specs.Condition.{Given}
 use Rattle.rules.specs.Record.{atom, value}
 use Rattle.rules.specs.Laws.Readers.{Sound, sound-field, sound-below, read-same, read-refused, refused-same}
 use Rattle.wire.specs.Answers.{placeOf, asNumber, refusalIn}
-use Rattle.wire.specs.Numbers.{Stored, ReadInto, stored-no}
+use Rattle.wire.specs.Into.{Into, told-no}
+use Rattle.wire.specs.Numbers.{ReadInto, putNumbers, numbers-sound}
 use Rattle.wire.specs.Places.{ReadTo, place-after, number-read, number-refused}
 use Rattle.wire.specs.declared.number.Number.{Number}
 use Rattle.wire.specs.declared.number.Number.the-variants as number
@@ -29,33 +29,13 @@ pub record AtomSlots : Type 0 where
 abbrev pub atomSlots : List ℕ → List ℕ → List ℤ → List ℤ → AtomSlots
 atomSlots measure operator coefficients constant = record { measure = measure; operator = operator; coefficients = coefficients; constant = constant }
 
-abbrev pub putAtom : AtomSlots → ℕ → Given → AtomSlots
-putAtom s slot a = record {
+abbrev pub putAtom : ℕ → AtomSlots → Given → AtomSlots
+putAtom slot s a = record {
   measure = set (s .measure) slot (a .measure);
   operator = set (s .operator) slot (a .operator);
-  coefficients = sets (s .coefficients) (slot * 4) (a .coefficients);
+  coefficients = putNumbers (slot * 4) (s .coefficients) (a .coefficients);
   constant = set (s .constant) slot (a .constant);
 }
-
--- after a refusal nothing is said of the slots: the callers clear them
-abbrev pub AtomIs : List ℕ → ℕ → AtomSlots → Read Given → Place → AtomSlots → Type 0
-AtomIs bytes slot s (read a rest) r s′ = (r ≡ Next (placeOf bytes rest)) × (s′ ≡ putAtom s slot a)
-AtomIs bytes slot s (refused k) r s′ = r ≡ Refused k
-
-pub record AtomStored (bytes : List ℕ) (slot : ℕ) (s : AtomSlots) (x : Read Given) (r : Place) (s′ : AtomSlots) : Type 0 where
-  pub is : AtomIs bytes slot s x r s′
-
--- ---- atoms in the slots from one on
-abbrev pub putAtoms : AtomSlots → ℕ → List Given → AtomSlots
-putAtoms s slot [] = s
-putAtoms s slot (a ∷ l) = putAtoms (putAtom s slot a) (suc slot) l
-
-abbrev pub AtomsAre : List ℕ → ℕ → AtomSlots → Read (List Given) → Place → AtomSlots → Type 0
-AtomsAre bytes slot s (read l rest) r s′ = (r ≡ Next (placeOf bytes rest)) × (s′ ≡ putAtoms s slot l)
-AtomsAre bytes slot s (refused k) r s′ = r ≡ Refused k
-
-pub record AtomsStored (bytes : List ℕ) (slot : ℕ) (s : AtomSlots) (x : Read (List Given)) (r : Place) (s′ : AtomSlots) : Type 0 where
-  pub is : AtomsAre bytes slot s x r s′
 
 -- ---- an atom, as the code reads it
 module _ {A : Type 0} (p : Reader A) (l : List ℕ) where
@@ -77,7 +57,7 @@ module _ (measures : ℕ) (bytes : List ℕ) (at slot : ℕ) {first : Number} (f
   abbrev X : Read Given
   X = atom measures (drop at bytes)
 
-  pub atom-no-measure : {j k : ℕ} {s s′ : AtomSlots} → first ≡ number.Refused j → k ≡ refusalIn first → AtomStored bytes slot s X (Refused k) s′
+  pub atom-no-measure : {j k : ℕ} {s s′ : AtomSlots} → first ≡ number.Refused j → k ≡ refusalIn first → Into (putAtom slot) bytes s X (Refused k) s′
   atom-no-measure {j} {k} got e = record { is = rw (number-refused (sound-below measures) bytes at from got) (ap Refused (e ∙ ap refusalIn got)) }
 
   module _ {m next : ℕ} (got : first ≡ number.Got m next) {second : Number} (from₂ : second ≡ asNumber bytes (field 3 1 operatorMost (drop next bytes))) where
@@ -87,7 +67,7 @@ module _ (measures : ℕ) (bytes : List ℕ) (at slot : ℕ) {first : Number} (f
     measure-is : ReadTo (sound-below measures) bytes at m next
     measure-is = number-read (sound-below measures) bytes at from got
 
-    pub atom-no-operator : {j k : ℕ} {s s′ : AtomSlots} → second ≡ number.Refused j → k ≡ refusalIn second → AtomStored bytes slot s X (Refused k) s′
+    pub atom-no-operator : {j k : ℕ} {s s′ : AtomSlots} → second ≡ number.Refused j → k ≡ refusalIn second → Into (putAtom slot) bytes s X (Refused k) s′
     atom-no-operator is e = record { is = rw (measure-is .0, number-refused operators bytes next from₂ is) (ap Refused (e ∙ ap refusalIn is)) }
 
     pub measure-small : m < measures
@@ -103,15 +83,15 @@ module _ (measures : ℕ) (bytes : List ℕ) (at slot : ℕ) {first : Number} (f
       pub operator-place : after₂ ≤ length bytes
       operator-place = operator-is .1
 
-      pub atom-no-row : {k : ℕ} {row : Place} {cs cs′ : List ℤ} {s s′ : AtomSlots} → Stored bytes (slot * 4) cs (times 4 (signedField 100) (drop after₂ bytes)) row cs′ → row ≡ Refused k → AtomStored bytes slot s X row s′
-      atom-no-row {k} {row} st e = record { is = rw (measure-is .0, operator-is .0, stored-no after₂ 100 4 st e .0) e }
+      pub atom-no-row : {k : ℕ} {row : Place} {cs cs′ : List ℤ} {s s′ : AtomSlots} → Into (putNumbers (slot * 4)) bytes cs (times 4 (signedField 100) (drop after₂ bytes)) row cs′ → row ≡ Refused k → Into (putAtom slot) bytes s X row s′
+      atom-no-row {k} {row} st e = record { is = rw (measure-is .0, operator-is .0, told-no (numbers-sound 4 100) after₂ st e) e }
 
       module _ {third : ℕ} {cs cs′ : List ℤ} (c : ReadInto bytes after₂ 100 (slot * 4) 4 third cs cs′) where
-        pub atom-no-constant : {k : ℕ} {one : Place} {ks ks′ : List ℤ} {s s′ : AtomSlots} → Stored bytes slot ks (times 1 (signedField 1_000_000) (drop third bytes)) one ks′ → one ≡ Refused k → AtomStored bytes slot s X one s′
-        atom-no-constant {k} st e = record { is = rw (measure-is .0, operator-is .0, c .reads, one-refused value (drop third bytes) (stored-no third 1_000_000 1 st e .0)) e }
+        pub atom-no-constant : {k : ℕ} {one : Place} {ks ks′ : List ℤ} {s s′ : AtomSlots} → Into (putNumbers slot) bytes ks (times 1 (signedField 1_000_000) (drop third bytes)) one ks′ → one ≡ Refused k → Into (putAtom slot) bytes s X one s′
+        atom-no-constant {k} st e = record { is = rw (measure-is .0, operator-is .0, c .reads, one-refused value (drop third bytes) (told-no (numbers-sound 1 1_000_000) third st e)) e }
 
-        pub atom-read : {end : ℕ} {ks ks′ : List ℤ} {ms os : List ℕ} → ReadInto bytes third 1_000_000 slot 1 end ks ks′ → AtomStored bytes slot (atomSlots ms os cs ks) X (Next end) (atomSlots (set ms slot m) (set os slot o) cs′ ks′)
+        pub atom-read : {end : ℕ} {ks ks′ : List ℤ} {ms os : List ℕ} → ReadInto bytes third 1_000_000 slot 1 end ks ks′ → Into (putAtom slot) bytes (atomSlots ms os cs ks) X (Next end) (atomSlots (set ms slot m) (set os slot o) cs′ ks′)
         atom-read {end} {ks} {ks′} {ms} {os} k =
             let v = one-read value (drop third bytes) (k .reads) in
-            let x : X ≡ read (record { measure = m; operator = o; coefficients = c .numbers; constant = v .0 }) (drop end bytes) = rw (measure-is .0, operator-is .0, c .reads, v .1) in
-            record { is = rw x (ap Next (sym (place-after bytes end (k .within))), λ i. atomSlots (set ms slot m) (set os slot o) (c .slots i) ((k .slots ∙ ap (sets ks slot) (v .2)) i)) }
+            let x : X ≡ read (record { measure = m; operator = o; coefficients = c .what; constant = v .0 }) (drop end bytes) = rw (measure-is .0, operator-is .0, c .reads, v .1) in
+            record { is = rw x (ap Next (sym (place-after bytes end (k .within))), λ i. atomSlots (set ms slot m) (set os slot o) (c .slots i) ((k .slots ∙ ap (putNumbers slot ks) (v .2)) i)) }

@@ -4,7 +4,8 @@ ghost use Prim.Native.Nat.{_+_, _≤_};
 ghost use lib.IntN.{pos};
 ghost use lib.ListN.{length, drop, replicate};
 ghost use Rattle.rules.specs.Number.{times, signedField};
-ghost use Rattle.wire.specs.Numbers.{Stored};
+ghost use Rattle.wire.specs.Into.{Into};
+ghost use Rattle.wire.specs.Numbers.{putNumbers};
 use crate::field::Signed;
 use crate::field::read_signed;
 use crate::field::signed_refusal;
@@ -32,7 +33,7 @@ pub fn read_numbers(
     count: usize,
 ) -> Place
     requires { ⌜ (count ≡ 0 → at ≤ length (now bytes)) ⌝ ∗ ⌜ first + count ≤ length (now out) ⌝ }
-    ensures { λ r. ⌜ Stored (now (bytes .entry)) first (now (out .entry)) (times count (signedField most) (drop at (now (bytes .entry)))) r (now (out .exit)) ⌝ }
+    ensures { λ r. ⌜ Into (putNumbers first) (now (bytes .entry)) (now (out .entry)) (times count (signedField most) (drop at (now (bytes .entry)))) r (now (out .exit)) ⌝ }
 {
     if count == 0 {
         return Place::Next(at);

@@ -6,7 +6,8 @@ ghost use Prim.Native.Nat.{_+_, _*_, _<_, _≤_};
 ghost use lib.ListN.{length, drop};
 ghost use Rattle.rules.specs.Number.{times};
 ghost use Rattle.rules.specs.Record.{atom, counted};
-ghost use Rattle.wire.specs.Waits.{atomSlots, AtomStored, AtomsStored};
+ghost use Rattle.wire.specs.Into.{Into};
+ghost use Rattle.wire.specs.Waits.{atomSlots, putAtom};
 use crate::field::read_below;
 use crate::field::read_field;
 use crate::field::refusal_of;
@@ -26,7 +27,7 @@ fn read_atom(
     slot: usize,
 ) -> Place
     requires { ⌜ slot < 16 ⌝ }
-    ensures { λ r. ⌜ AtomStored (now (bytes .entry)) slot
+    ensures { λ r. ⌜ Into (putAtom slot) (now (bytes .entry))
         (atomSlots (now (measure .entry)) (now (operator .entry)) (now (coefficients .entry)) (now (constant .entry)))
         (atom measures (drop at (now (bytes .entry)))) r
         (atomSlots (now (measure .exit)) (now (operator .exit)) (now (coefficients .exit)) (now (constant .exit))) ⌝ }

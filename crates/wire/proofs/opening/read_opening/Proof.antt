@@ -5,7 +5,8 @@ use borrow.Author.Needs.{needs}
 use native.Mathlib.Omega.{arith}
 use lib.IntN.{pos}
 use lib.ListN.{length, replicate, length-replicate}
-use Rattle.wire.specs.Numbers.{ReadInto, stored-next}
+use Rattle.wire.specs.Into.{told}
+use Rattle.wire.specs.Numbers.{ReadInto, numbers-sound}
 use Rattle.wire.specs.Openings.{count-refused, count-within, opening-no-rows, opening-no-values, opening-read}
 use Rattle.wire.proofs.opening.read_opening.Statement.{statement}
 use Rattle.wire.proofs.opening.read_opening.Tie as tie
@@ -45,7 +46,8 @@ returns-2 c =
     let f = k .before .before .before in
     let a = f .before .before .before .before .before .before .args in
     opening-no-rows (a .bytes .now) (a .at) (f .read-field .ensures) (k .before .answer .given .1) (zero-c (f .before .before .before)) (zero-v (f .before))
-    (n .read-numbers .ensures) (c .before .before .before .enum-told2 .given .1) (c .place-refusal .ensures) (c .before .clear3 .ensures)
+    (n .read-numbers .ensures) (c .before .before .before .enum-told2 .given .1) (c .place-refusal .ensures)
+    (c .before .clear3 .ensures ∙ ap (λ n. replicate n (pos 0)) (c .before .before .clear-arg3 .given .0 .1))
 
 -- ---- the coefficients were read
 abbrev counted-at : tie.After-known-told2 → tie.After-known-told
@@ -56,7 +58,7 @@ cleared-at m = counted-at m .before .before .before .before
 
 rows-in : (m : tie.After-known-told2) → ReadInto (cleared-at m .before .before .before .before .before .args .bytes .now) (counted-at m .before .answer .given .0 .1 .0) 100 0 (counted-at m .before .answer .given .0 .0 * 8) (m .before .rows .given .0 .0)
     (cleared-at m .before .before .clear .last .0) (m .before .before .before .read-numbers .last .1 .1 .1 .0)
-rows-in m = stored-next (counted-at m .before .answer .given .0 .1 .0) 100 (counted-at m .before .answer .given .0 .0 * 8) (m .before .before .before .read-numbers .ensures) (m .before .rows .given .1)
+rows-in m = told (numbers-sound (counted-at m .before .answer .given .0 .0 * 8) 100) (counted-at m .before .answer .given .0 .1 .0) (m .before .before .before .read-numbers .ensures) (m .before .rows .given .1)
 
 read-numbers-requires-2 : tie.Need-read-numbers-requires-2
 read-numbers-requires-2 c κs = (λ _. rows-in (c .before) .within, omega (arith, ap length (zero-v (cleared-at (c .before))), length-replicate 8 (pos 0)))
@@ -69,8 +71,8 @@ returns-3 c =
     let f = k .before .before .before in
     let a = f .before .before .before .before .before .before .args in
     opening-no-values (a .bytes .now) (a .at) (f .read-field .ensures) (k .before .answer .given .1) (zero-c (f .before .before .before)) (zero-v (f .before))
-    (rows-in m) (n .read-numbers2 .ensures) (c .before .before .before .before .before .enum-told3 .given .1) (c .place-refusal2 .ensures) (c .before .before .before .clear4 .ensures) (c .before .clear5 .ensures)
-    (ap length (zero-v (f .before)) ∙ length-replicate 8 (pos 0))
+    (rows-in m) (n .read-numbers2 .ensures) (c .before .before .before .before .before .enum-told3 .given .1) (c .place-refusal2 .ensures)
+    (c .before .before .before .clear4 .ensures ∙ ap (λ n. replicate n (pos 0)) (c .before .before .before .before .clear-arg4 .given .0 .1)) (c .before .clear5 .ensures ∙ ap (λ n. replicate n (pos 0)) (c .before .before .clear-arg5 .given .0 .1))
 
 returns-4 : tie.Need-returns-4
 returns-4 c =
@@ -80,7 +82,7 @@ returns-4 c =
     let f = k .before .before .before in
     let a = f .before .before .before .before .before .before .args in
     opening-read (a .bytes .now) (a .at) (f .read-field .ensures) (k .before .answer .given .1) (zero-c (f .before .before .before)) (zero-v (f .before))
-    (rows-in m) (stored-next (m .before .rows .given .0 .0) 1_000_000 8 (n .read-numbers2 .ensures) (c .before .row .given .1))
+    (rows-in m) (told (numbers-sound 8 1_000_000) (m .before .rows .given .0 .0) (n .read-numbers2 .ensures) (c .before .row .given .1))
 
 pub read-opening-spec : {M : Type 1} → statement M
 read-opening-spec =

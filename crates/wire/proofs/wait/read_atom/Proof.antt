@@ -2,7 +2,8 @@
 use Prim.Native.Nat.{_*_}
 use borrow.Author.Needs.{needs}
 use native.Mathlib.Omega.{arith}
-use Rattle.wire.specs.Numbers.{ReadInto, stored-next}
+use Rattle.wire.specs.Into.{told}
+use Rattle.wire.specs.Numbers.{ReadInto, numbers-sound}
 use Rattle.wire.specs.Waits.{atom-no-measure, atom-no-operator, measure-small, operator-small, atom-no-row, atom-no-constant, atom-read}
 use Rattle.wire.proofs.wait.read_atom.Statement.{statement}
 use Rattle.wire.proofs.wait.read_atom.Tie as tie
@@ -29,7 +30,7 @@ args-at k = k .before .before .before .before .before .before .before .before .b
 
 row-in : (k : tie.After-known-told3) → ReadInto (args-at k .args .bytes .now) (k .before .before .before .before .before .before .second .given .0 .1 .0) 100 (args-at k .args .slot * 4) 4 (k .before .row .given .0 .0)
     (args-at k .args .coefficients .now) (k .before .before .before .read-numbers .last .1 .1 .1 .0)
-row-in k = stored-next (k .before .before .before .before .before .before .second .given .0 .1 .0) 100 4 (k .before .before .before .read-numbers .ensures) (k .before .row .given .1)
+row-in k = told (numbers-sound 4 100) (k .before .before .before .before .before .before .second .given .0 .1 .0) (k .before .before .before .read-numbers .ensures) (k .before .row .given .1)
 
 returns-4 : tie.Need-returns-4
 returns-4 c =
@@ -45,16 +46,23 @@ cast-measure c =
     let n = c .before .before .before .before .before in
     let k = n .before .before .before .before .before in
     let a = args-at n .args in
-    omega (arith, args-at n .fits .measures, measure-small (a .measures) (a .bytes .now) (a .at) (a .slot) (k .before .before .before .before .before .before .before .read-below .ensures) (k .before .before .before .before .before .first .given .1)
-    (k .before .before .before .read-field .ensures))
+    omega (
+      arith,
+      args-at n .fits .measures,
+      measure-small (a .measures) (a .bytes .now) (a .at) (a .slot) (k .before .before .before .before .before .before .before .read-below .ensures) (k .before .before .before .before .before .first .given .1)
+          (k .before .before .before .read-field .ensures),
+    )
 
 cast-operator : tie.Need-cast-operator
 cast-operator c =
     let n = c .before .before .before .before .before in
     let k = n .before .before .before .before .before in
     let a = args-at n .args in
-    omega (arith, operator-small (a .measures) (a .bytes .now) (a .at) (a .slot) (k .before .before .before .before .before .before .before .read-below .ensures) (k .before .before .before .before .before .first .given .1)
-    (k .before .before .before .read-field .ensures) (k .before .second .given .1))
+    omega (
+      arith,
+      operator-small (a .measures) (a .bytes .now) (a .at) (a .slot) (k .before .before .before .before .before .before .before .read-below .ensures) (k .before .before .before .before .before .first .given .1)
+          (k .before .before .before .read-field .ensures) (k .before .second .given .1),
+    )
 
 returns-5 : tie.Need-returns-5
 returns-5 c =
@@ -62,7 +70,7 @@ returns-5 c =
     let k = n .before .before .before .before .before in
     let a = args-at n .args in
     atom-read (a .measures) (a .bytes .now) (a .at) (a .slot) (k .before .before .before .before .before .before .before .read-below .ensures) (k .before .before .before .before .before .first .given .1)
-    (k .before .before .before .read-field .ensures) (k .before .second .given .1) (row-in n) (stored-next (n .before .row .given .0 .0) 1_000_000 1 (c .before .before .before .read-numbers2 .ensures) (c .before .one .given .1))
+    (k .before .before .before .read-field .ensures) (k .before .second .given .1) (row-in n) (told (numbers-sound 1 1_000_000) (n .before .row .given .0 .0) (c .before .before .before .read-numbers2 .ensures) (c .before .one .given .1))
 
 pub read-atom-spec : {M : Type 1} → statement M
 read-atom-spec =
