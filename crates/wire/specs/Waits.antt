@@ -1,17 +1,19 @@
 -- The numbers of a Wait in lent slots: what each slot holds, and that the code's way of reading is the rules'.
 use mathlib.Core.Path.{_≡_, refl, sym, ap, _∙_}
 use mathlib.Core.List.{List, [], _∷_}
-use Prim.Native.Nat.{ℕ, suc, _+_, _*_, _≤_, _<_}
+use Prim.Native.Nat.{ℕ, suc, _+_, _*_, _-_, _≤_, _<_}
 use native.Mathlib.Omega.{arith}
 use lib.IntN.{ℤ}
 use lib.ListN.{length, drop, set}
-use Rattle.rules.specs.Limits.{operatorMost}
+use Rattle.rules.specs.Limits.{operatorMost, partsMost}
 use Rattle.rules.specs.Number.{Read, read, refused, Reader, pure, after, times, field, below, signedField}
 use Rattle.rules.specs.Condition.{Given}
-use Rattle.rules.specs.Record.{atom, value}
-use Rattle.rules.specs.Laws.Readers.{Sound, sound-field, sound-below, read-same, read-refused, refused-same}
+use Rattle.rules.specs.Record.{atom, value, counted}
+use Rattle.rules.specs.Laws.Bounds.{Each}
+use Rattle.rules.specs.Laws.WellFormed.{GivenFits, sound-atom, sound-counted}
+use Rattle.rules.specs.Laws.Readers.{Sound, sound-field, sound-below, sound-times, read-same, read-refused, refused-same}
 use Rattle.wire.specs.Answers.{placeOf, asNumber, refusalIn}
-use Rattle.wire.specs.Into.{Into, told-no}
+use Rattle.wire.specs.Into.{Into, told, told-no, putAll, all-none, all-no, all-more}
 use Rattle.wire.specs.Numbers.{ReadInto, putNumbers, numbers-sound}
 use Rattle.wire.specs.Places.{ReadTo, place-after, number-read, number-refused}
 use Rattle.wire.specs.declared.number.Number.{Number}
@@ -36,6 +38,23 @@ putAtom slot s a = record {
   coefficients = putNumbers (slot * 4) (s .coefficients) (a .coefficients);
   constant = set (s .constant) slot (a .constant);
 }
+
+abbrev pub putAtoms : ℕ → AtomSlots → List Given → AtomSlots
+putAtoms = putAll putAtom
+
+-- ---- alternatives: an atom count each, and the atoms from four times its number on
+pub record WaitSlots : Type 0 where
+  pub counts : List ℕ
+  pub atoms : AtomSlots
+
+abbrev pub waitSlots : List ℕ → AtomSlots → WaitSlots
+waitSlots counts atoms = record { counts = counts; atoms = atoms }
+
+abbrev pub putAlternative : ℕ → WaitSlots → List Given → WaitSlots
+putAlternative i s l = record { counts = set (s .counts) i (length l); atoms = putAtoms (i * 4) (s .atoms) l }
+
+abbrev pub putAlternatives : ℕ → WaitSlots → List (List Given) → WaitSlots
+putAlternatives = putAll putAlternative
 
 -- ---- an atom, as the code reads it
 module _ {A : Type 0} (p : Reader A) (l : List ℕ) where
@@ -95,3 +114,51 @@ module _ (measures : ℕ) (bytes : List ℕ) (at slot : ℕ) {first : Number} (f
             let v = one-read value (drop third bytes) (k .reads) in
             let x : X ≡ read (record { measure = m; operator = o; coefficients = c .what; constant = v .0 }) (drop end bytes) = rw (measure-is .0, operator-is .0, c .reads, v .1) in
             record { is = rw x (ap Next (sym (place-after bytes end (k .within))), λ i. atomSlots (set ms slot m) (set os slot o) (c .slots i) ((k .slots ∙ ap (putNumbers slot ks) (v .2)) i)) }
+
+-- ---- atoms, as the code reads them
+pub atoms-sound : (count measures : ℕ) → Sound 0 (λ l. (length l ≡ count) × Each (GivenFits measures) l) (times count (atom measures))
+atoms-sound count measures = sound-times (atom measures) (sound-atom measures) count
+
+module _ (measures : ℕ) (bytes : List ℕ) (at slot count : ℕ) {s s₁ : AtomSlots} {one : Place} (first : Into (putAtom slot) bytes s (atom measures (drop at bytes)) one s₁) (some-left : count ≡ 0 → ⊥) where
+  pub atoms-no : {k : ℕ} {s′ : AtomSlots} → one ≡ Refused k → Into (putAtoms slot) bytes s (times count (atom measures) (drop at bytes)) one s′
+  atoms-no e = all-no (sound-atom measures) putAtom bytes at slot count some-left (told-no (sound-atom measures) at first e) e
+
+  pub atoms-more : {next : ℕ} {r : Place} {s′ : AtomSlots} → one ≡ Next next → Into (putAtoms (slot + 1)) bytes s₁ (times (count - 1) (atom measures) (drop next bytes)) r s′ →
+      Into (putAtoms slot) bytes s (times count (atom measures) (drop at bytes)) r s′
+  atoms-more {next} e i = let t = told (sound-atom measures) at first e in all-more (sound-atom measures) putAtom bytes at slot count some-left next (t .reads) (t .slots) i
+
+pub atom-within : (measures : ℕ) (bytes : List ℕ) (at slot : ℕ) {s s₁ : AtomSlots} {one : Place} {next : ℕ} → Into (putAtom slot) bytes s (atom measures (drop at bytes)) one s₁ → one ≡ Next next → next ≤ length bytes
+atom-within measures bytes at slot i e = told (sound-atom measures) at i e .within
+
+-- ---- alternatives, as the code reads them
+module _ (measures : ℕ) (bytes : List ℕ) (at i count : ℕ) {answer : Number} (from : answer ≡ asNumber bytes (field 4 1 partsMost (drop at bytes))) (some-left : count ≡ 0 → ⊥) where
+  parts : Sound 1 (λ n. (1 ≤ n) × (n ≤ partsMost)) (field 4 1 partsMost)
+  parts = sound-field 4 1 partsMost (omega arith) (omega arith)
+
+  abbrev one-alternative : Reader (List Given)
+  one-alternative = counted (atom measures)
+
+  pub alternatives-no-count : {j k : ℕ} {s s′ : WaitSlots} → answer ≡ number.Refused j → k ≡ refusalIn answer → Into (putAlternatives i) bytes s (times count one-alternative (drop at bytes)) (Refused k) s′
+  alternatives-no-count {j} got e = all-no (sound-counted (atom measures) (sound-atom measures)) putAlternative bytes at i count some-left (rw (number-refused parts bytes at from got)) (ap Refused (e ∙ ap refusalIn got))
+
+  module _ {atoms next : ℕ} (got : answer ≡ number.Got atoms next) where
+    count-is : ReadTo parts bytes at atoms next
+    count-is = number-read parts bytes at from got
+
+    pub atoms-few : (atoms ≤ 4) × (next ≤ length bytes)
+    atoms-few = (parts .gives (drop at bytes) atoms (drop next bytes) (count-is .0) .0 .1, count-is .1)
+
+    module _ {s s₁ : AtomSlots} {row : Place} (rows : Into (putAtoms (i * 4)) bytes s (times atoms (atom measures) (drop next bytes)) row s₁) where
+      pub alternatives-no-atoms : {k : ℕ} {w w′ : WaitSlots} → row ≡ Refused k → Into (putAlternatives i) bytes w (times count one-alternative (drop at bytes)) row w′
+      alternatives-no-atoms e = all-no (sound-counted (atom measures) (sound-atom measures)) putAlternative bytes at i count some-left (rw (count-is .0, told-no (atoms-sound atoms measures) next rows e)) e
+
+      pub row-within : {after₂ : ℕ} → row ≡ Next after₂ → after₂ ≤ length bytes
+      row-within e = told (atoms-sound atoms measures) next rows e .within
+
+      pub alternatives-more : {after₂ : ℕ} {cs : List ℕ} {r : Place} {w′ : WaitSlots} → row ≡ Next after₂ →
+          Into (putAlternatives (i + 1)) bytes (waitSlots (set cs i atoms) s₁) (times (count - 1) one-alternative (drop after₂ bytes)) r w′ →
+          Into (putAlternatives i) bytes (waitSlots cs s) (times count one-alternative (drop at bytes)) r w′
+      alternatives-more {after₂} {cs} e more =
+          let t = told (atoms-sound atoms measures) next rows e in
+          let d : one-alternative (drop at bytes) ≡ read (t .what) (drop after₂ bytes) = rw (count-is .0) (t .reads) in
+          all-more (sound-counted (atom measures) (sound-atom measures)) putAlternative bytes at i count some-left after₂ d (λ j. waitSlots (set cs i (sym (t .good .0) j)) (t .slots j)) more

@@ -7,7 +7,7 @@ ghost use lib.ListN.{length, drop};
 ghost use Rattle.rules.specs.Number.{times};
 ghost use Rattle.rules.specs.Record.{atom, counted};
 ghost use Rattle.wire.specs.Into.{Into};
-ghost use Rattle.wire.specs.Waits.{atomSlots, putAtom};
+ghost use Rattle.wire.specs.Waits.{atomSlots, putAtom, putAtoms, waitSlots, putAlternatives};
 use crate::field::read_below;
 use crate::field::read_field;
 use crate::field::refusal_of;
@@ -53,4 +53,107 @@ fn read_atom(
     measure[slot] = m as u8;
     operator[slot] = o as u8;
     Place::Next(end)
+}
+
+// So many atoms, into the slots from one on.
+fn read_atoms(
+    measure: &mut [u8; 16],
+    operator: &mut [u8; 16],
+    coefficients: &mut [i64; 64],
+    constant: &mut [i64; 16],
+    bytes: &[u8],
+    at: usize,
+    measures: u8,
+    slot: usize,
+    count: usize,
+) -> Place
+    requires { ⌜ (count ≡ 0 → at ≤ length (now bytes)) ⌝ ∗ ⌜ slot + count ≤ 16 ⌝ }
+    ensures { λ r. ⌜ Into (putAtoms slot) (now (bytes .entry))
+        (atomSlots (now (measure .entry)) (now (operator .entry)) (now (coefficients .entry)) (now (constant .entry)))
+        (times count (atom measures) (drop at (now (bytes .entry)))) r
+        (atomSlots (now (measure .exit)) (now (operator .exit)) (now (coefficients .exit)) (now (constant .exit))) ⌝ }
+{
+    if count == 0 {
+        return Place::Next(at);
+    }
+    let one = read_atom(
+        measure,
+        operator,
+        coefficients,
+        constant,
+        bytes,
+        at,
+        measures,
+        slot,
+    );
+    let Place::Next(next) = one else {
+        return one;
+    };
+    read_atoms(
+        measure,
+        operator,
+        coefficients,
+        constant,
+        bytes,
+        next,
+        measures,
+        slot + 1,
+        count - 1,
+    )
+}
+
+// So many alternatives, from one on: each with its atom count and its atoms.
+fn read_alternatives(
+    counts: &mut [u8; 4],
+    measure: &mut [u8; 16],
+    operator: &mut [u8; 16],
+    coefficients: &mut [i64; 64],
+    constant: &mut [i64; 16],
+    bytes: &[u8],
+    at: usize,
+    measures: u8,
+    alternative: usize,
+    count: usize,
+) -> Place
+    requires { ⌜ (count ≡ 0 → at ≤ length (now bytes)) ⌝ ∗ ⌜ alternative + count ≤ 4 ⌝ }
+    ensures { λ r. ⌜ Into (putAlternatives alternative) (now (bytes .entry))
+        (waitSlots (now (counts .entry)) (atomSlots (now (measure .entry)) (now (operator .entry)) (now (coefficients .entry)) (now (constant .entry))))
+        (times count (counted (atom measures)) (drop at (now (bytes .entry)))) r
+        (waitSlots (now (counts .exit)) (atomSlots (now (measure .exit)) (now (operator .exit)) (now (coefficients .exit)) (now (constant .exit)))) ⌝ }
+{
+    if count == 0 {
+        return Place::Next(at);
+    }
+    let answer = read_field(bytes, at, 4, 1, 4);
+    let Number::Got(atoms, next) = answer else {
+        let refusal = refusal_of(answer);
+        return Place::Refused(refusal);
+    };
+    let row = read_atoms(
+        measure,
+        operator,
+        coefficients,
+        constant,
+        bytes,
+        next,
+        measures,
+        alternative * 4,
+        atoms as usize,
+    );
+    let Place::Next(after) = row else {
+        return row;
+    };
+    counts[alternative] = atoms as u8;
+    read_alternatives(
+        counts,
+        measure,
+        operator,
+        coefficients,
+        constant,
+        bytes,
+        after,
+        measures,
+        alternative + 1,
+        count - 1,
+    )
 }

@@ -72,7 +72,7 @@ closure-fits n l g h e = parts-map (Parts (GivenFits n)) (Parts (AtomFits n)) (m
     one a f = record { measure = f .measure; operator = f .operator; key = key-fits l a h (f .coefficients) (f .constant) }
 
 -- ---- so do the readers
-sound-counted : {A : Type 0} {P : A → Type 0} {k : ℕ} (p : Reader A) → Sound k P p → Sound 1 (Parts P) (counted p)
+pub sound-counted : {A : Type 0} {P : A → Type 0} {k : ℕ} (p : Reader A) → Sound k P p → Sound 1 (Parts P) (counted p)
 sound-counted p s = sound-then {m = 0} (field 4 1 partsMost) _ (sound-field 4 1 partsMost (omega arith) (omega arith)) (λ n h. sound-less (omega arith) (λ l e. ((omega (arith, h .0, e .0), omega (arith, h .1, e .0)), e .1)) (sound-times p s n))
 
 pub sound-value : Sound 1 (Within valueMost) value
@@ -82,7 +82,7 @@ pub sound-coefficient : Sound 1 (Within coefficientMost) coefficient
 sound-coefficient = sound-signed coefficientMost
 
 module _ (n : ℕ) where
-  sound-atom : Sound 3 (GivenFits n) (atom n)
+  pub sound-atom : Sound 3 (GivenFits n) (atom n)
   sound-atom = sound-then (below n) _ (sound-below n) (λ m f. sound-then (field 3 1 operatorMost) _ (sound-field 3 1 operatorMost (omega arith) (omega arith))
       (λ o g. sound-then (times locals coefficient) _ (sound-times coefficient sound-coefficient locals) (λ c h. sound-then value _ sound-value
       (λ k i. sound-pure _ (record { measure = f; operator = g; coefficients = h; constant = i })))))
