@@ -1,20 +1,22 @@
 -- The numbers of a Wait in lent slots: what each slot holds, and that the code's way of reading is the rules'.
 use mathlib.Core.Path.{_≡_, refl, sym, ap, _∙_}
-use mathlib.Core.List.{List, [], _∷_}
+use mathlib.Core.List.{List, [], _∷_, _++_, append-nil}
 use Prim.Native.Nat.{ℕ, suc, _+_, _*_, _-_, _≤_, _<_}
 use native.Mathlib.Omega.{arith}
-use lib.IntN.{ℤ}
-use lib.ListN.{length, drop, set}
-use Rattle.rules.specs.Limits.{operatorMost, partsMost}
-use Rattle.rules.specs.Number.{Read, read, refused, Reader, pure, after, times, field, below, signedField}
+use lib.IntN.{ℤ, pos}
+use lib.ListN.{length, drop, set, replicate}
+use lib.Seq.{sets}
+use Rattle.rules.specs.Limits.{operatorMost, partsMost, locals}
+use Rattle.rules.specs.Number.{Read, read, refused, Reader, pure, after, _>>=_, times, field, below, signedField}
 use Rattle.rules.specs.Condition.{Given}
-use Rattle.rules.specs.Record.{atom, value, counted}
+use Rattle.rules.specs.Record.{atom, value, counted, condition}
 use Rattle.rules.specs.Laws.Bounds.{Each}
-use Rattle.rules.specs.Laws.WellFormed.{GivenFits, sound-atom, sound-counted}
+use Rattle.rules.specs.Laws.WellFormed.{GivenFits, Parts, sound-atom, sound-counted}
 use Rattle.rules.specs.Laws.Readers.{Sound, sound-field, sound-below, sound-times, read-same, read-refused, refused-same}
-use Rattle.wire.specs.Answers.{placeOf, asNumber, refusalIn}
+use Rattle.wire.specs.Answers.{placeOf, asNumber, refusalIn, placeRefusal}
 use Rattle.wire.specs.Into.{Into, told, told-no, putAll, all-none, all-no, all-more}
-use Rattle.wire.specs.Numbers.{ReadInto, putNumbers, numbers-sound}
+use Rattle.wire.specs.Numbers.{ReadInto, putNumbers, put-sets, numbers-sound}
+use Rattle.wire.specs.Openings.{stored-slots}
 use Rattle.wire.specs.Places.{ReadTo, place-after, number-read, number-refused}
 use Rattle.wire.specs.declared.number.Number.{Number}
 use Rattle.wire.specs.declared.number.Number.the-variants as number
@@ -55,6 +57,39 @@ putAlternative i s l = record { counts = set (s .counts) i (length l); atoms = p
 
 abbrev pub putAlternatives : ℕ → WaitSlots → List (List Given) → WaitSlots
 putAlternatives = putAll putAlternative
+
+-- ---- the whole: slots that nothing was put into, the rules' reader, and what the lent slots then hold
+abbrev pub noLocals : List ℤ
+noLocals = replicate 4 (pos 0)
+
+abbrev pub noSlots : WaitSlots
+noSlots = waitSlots (replicate 4 0) (atomSlots (replicate 16 0) (replicate 16 0) (replicate 64 (pos 0)) (replicate 16 (pos 0)))
+
+-- the local values and the condition as it is given
+pub record Body : Type 0 where
+  pub locals : List ℤ
+  pub condition : List (List Given)
+
+abbrev pub numbers : ℕ → Reader Body
+numbers measures = do
+  l ← times locals value
+  g ← condition measures
+  pure (record { locals = l; condition = g })
+
+abbrev pub asWait : List ℕ → Read Body → Number
+asWait bytes (read b rest) = number.Got (length (b .condition)) (placeOf bytes rest)
+asWait bytes (refused k) = number.Refused k
+
+abbrev pub localsOf : Read Body → List ℤ
+localsOf (read b rest) = b .locals
+localsOf (refused k) = noLocals
+
+abbrev pub slotsOf : Read Body → WaitSlots
+slotsOf (read b rest) = putAlternatives 0 noSlots (b .condition)
+slotsOf (refused k) = noSlots
+
+abbrev pub Waits : List ℕ → Read Body → Number → List ℤ → WaitSlots → Type 0
+Waits bytes x r l s = (r ≡ asWait bytes x) × (l ≡ localsOf x) × (s ≡ slotsOf x)
 
 -- ---- an atom, as the code reads it
 module _ {A : Type 0} (p : Reader A) (l : List ℕ) where
@@ -162,3 +197,52 @@ module _ (measures : ℕ) (bytes : List ℕ) (at i count : ℕ) {answer : Number
           let t = told (atoms-sound atoms measures) next rows e in
           let d : one-alternative (drop at bytes) ≡ read (t .what) (drop after₂ bytes) = rw (count-is .0) (t .reads) in
           all-more (sound-counted (atom measures) (sound-atom measures)) putAlternative bytes at i count some-left after₂ d (λ j. waitSlots (set cs i (sym (t .good .0) j)) (t .slots j)) more
+
+-- ---- the whole, as the code reads it: it cleared the slots first, and clears them after a refusal
+module _ (measures : ℕ) (bytes : List ℕ) (at : ℕ) {zero-l l : List ℤ} {row : Place} (cleared-l : zero-l ≡ noLocals) (locals-in : Into (putNumbers 0) bytes zero-l (times 4 (signedField 1_000_000) (drop at bytes)) row l) where
+  no-wait : {k : ℕ} {l′ : List ℤ} {s′ : WaitSlots} → numbers measures (drop at bytes) ≡ refused k → l′ ≡ noLocals → s′ ≡ noSlots → Waits bytes (numbers measures (drop at bytes)) (number.Refused k) l′ s′
+  no-wait e p q = (rw e, p ∙ rw e, q ∙ rw e)
+
+  pub wait-no-locals : {j k : ℕ} {l′ : List ℤ} {s′ : WaitSlots} → row ≡ Refused k → j ≡ placeRefusal row → (l′ ≡ noLocals) × (s′ ≡ noSlots) → Waits bytes (numbers measures (drop at bytes)) (number.Refused j) l′ s′
+  wait-no-locals {j} {k} e q z =
+      let w = no-wait {k = k} (rw (told-no (numbers-sound 4 1_000_000) at locals-in e)) (z .0) (z .1) in
+      (ap number.Refused (q ∙ ap placeRefusal e) ∙ w .0, w .1, w .2)
+
+  module _ {next : ℕ} (located : row ≡ Next next) {answer : Number} (from : answer ≡ asNumber bytes (field 4 1 partsMost (drop next bytes))) where
+    locals-told : ReadInto bytes at 1_000_000 0 4 next zero-l l
+    locals-told = told (numbers-sound 4 1_000_000) at locals-in located
+
+    few : Sound 1 (λ n. (1 ≤ n) × (n ≤ partsMost)) (field 4 1 partsMost)
+    few = sound-field 4 1 partsMost (omega arith) (omega arith)
+
+    pub wait-no-count : {j : ℕ} {l′ : List ℤ} {s′ : WaitSlots} → answer ≡ number.Refused j → (l′ ≡ noLocals) × (s′ ≡ noSlots) → Waits bytes (numbers measures (drop at bytes)) answer l′ s′
+    wait-no-count {j} e z =
+        let w = no-wait {k = j} (rw (locals-told .reads, number-refused few bytes next from e)) (z .0) (z .1) in
+        (e ∙ w .0, w .1, w .2)
+
+    module _ {count after₂ : ℕ} (got : answer ≡ number.Got count after₂) where
+      counted-told : ReadTo few bytes next count after₂
+      counted-told = number-read few bytes next from got
+
+      pub wait-few : (count ≤ 4) × (after₂ ≤ length bytes)
+      wait-few = (few .gives (drop next bytes) count (drop after₂ bytes) (counted-told .0) .0 .1, counted-told .1)
+
+      alternatives-sound : Sound 0 (λ g. (length g ≡ count) × Each (Parts (GivenFits measures)) g) (times count (counted (atom measures)))
+      alternatives-sound = sound-times (counted (atom measures)) (sound-counted (atom measures) (sound-atom measures)) count
+
+      module _ {zero-s s : WaitSlots} {rest : Place} (cleared-s : zero-s ≡ noSlots) (rest-in : Into (putAlternatives 0) bytes zero-s (times count (counted (atom measures)) (drop after₂ bytes)) rest s) where
+        pub wait-no-alternatives : {j k : ℕ} {l′ : List ℤ} {s′ : WaitSlots} → rest ≡ Refused k → j ≡ placeRefusal rest → (l′ ≡ noLocals) × (s′ ≡ noSlots) → Waits bytes (numbers measures (drop at bytes)) (number.Refused j) l′ s′
+        wait-no-alternatives {j} {k} e q z =
+            let w = no-wait {k = k} (rw (locals-told .reads, counted-told .0, told-no alternatives-sound after₂ rest-in e)) (z .0) (z .1) in
+            (ap number.Refused (q ∙ ap placeRefusal e) ∙ w .0, w .1, w .2)
+
+        pub wait-read : {end : ℕ} → rest ≡ Next end → Waits bytes (numbers measures (drop at bytes)) (number.Got count end) l s
+        wait-read {end} e =
+            let g = told alternatives-sound after₂ rest-in e in
+            let v = locals-told in
+            let x : numbers measures (drop at bytes) ≡ read (record { locals = v .what; condition = g .what }) (drop end bytes) = rw (v .reads, counted-told .0, g .reads) in
+            let none-after : _≡_ {A = ℕ} (4 - length (v .what)) 0 = omega (arith, v .good .0) in
+            let l-is : l ≡ v .what =
+            v .slots ∙ put-sets 0 zero-l (v .what) ∙ ap (λ z. sets z 0 (v .what)) cleared-l ∙ stored-slots 4 (v .what) (omega (arith, v .good .0))
+            ∙ ap (λ n. v .what ++ replicate n (pos 0)) none-after ∙ append-nil (v .what) in
+            (rw x (λ i. number.Got (sym (g .good .0) i) (sym (place-after bytes end (g .within)) i)), rw x l-is, rw x (g .slots ∙ ap (λ z. putAlternatives 0 z (g .what)) cleared-s))

@@ -22,6 +22,17 @@ pub fn clear(out: &mut [i64])
     }
 }
 
+// Every slot becomes 0.
+pub fn clear_bytes(out: &mut [u8])
+    ensures { λ _. ⌜ now (out .exit) ≡ replicate (length (now (out .entry))) 0 ⌝ }
+{
+    let mut i = 0;
+    while i < out.len() {
+        out[i] = 0;
+        i += 1;
+    }
+}
+
 // So many signed numbers, each at most so far from 0, into the slots from `first` on. What was stored before a refusal stays: the callers
 // clear it.
 pub fn read_numbers(

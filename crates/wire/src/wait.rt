@@ -7,13 +7,16 @@ ghost use lib.ListN.{length, drop};
 ghost use Rattle.rules.specs.Number.{times};
 ghost use Rattle.rules.specs.Record.{atom, counted};
 ghost use Rattle.wire.specs.Into.{Into};
-ghost use Rattle.wire.specs.Waits.{atomSlots, putAtom, putAtoms, waitSlots, putAlternatives};
+ghost use Rattle.wire.specs.Waits.{atomSlots, putAtom, putAtoms, waitSlots, putAlternatives, noLocals, noSlots, numbers, Waits};
 use crate::field::read_below;
 use crate::field::read_field;
 use crate::field::refusal_of;
 use crate::number::Number;
+use crate::numbers::clear;
+use crate::numbers::clear_bytes;
 use crate::numbers::read_numbers;
 use crate::place::Place;
+use crate::place::place_refusal;
 
 // One atom, into its slot.
 fn read_atom(
@@ -156,4 +159,72 @@ fn read_alternatives(
         alternative + 1,
         count - 1,
     )
+}
+
+// Every slot becomes 0.
+fn clear_wait(
+    locals: &mut [i64; 4],
+    counts: &mut [u8; 4],
+    measure: &mut [u8; 16],
+    operator: &mut [u8; 16],
+    coefficients: &mut [i64; 64],
+    constant: &mut [i64; 16],
+)
+    ensures { λ _. ⌜ (now (locals .exit) ≡ noLocals)
+        × (waitSlots (now (counts .exit)) (atomSlots (now (measure .exit)) (now (operator .exit)) (now (coefficients .exit)) (now (constant .exit))) ≡ noSlots) ⌝ }
+{
+    clear(locals);
+    clear_bytes(counts);
+    clear_bytes(measure);
+    clear_bytes(operator);
+    clear(coefficients);
+    clear(constant);
+}
+
+// The numbers of a Wait, for a room with so many measures: the alternative count and the place after them. Slots past a count are 0, and
+// after a refusal every slot is.
+pub fn read_wait(
+    locals: &mut [i64; 4],
+    counts: &mut [u8; 4],
+    measure: &mut [u8; 16],
+    operator: &mut [u8; 16],
+    coefficients: &mut [i64; 64],
+    constant: &mut [i64; 16],
+    bytes: &[u8],
+    at: usize,
+    measures: u8,
+) -> Number
+    ensures { λ r. ⌜ Waits (now (bytes .entry)) (numbers measures (drop at (now (bytes .entry)))) r (now (locals .exit))
+        (waitSlots (now (counts .exit)) (atomSlots (now (measure .exit)) (now (operator .exit)) (now (coefficients .exit)) (now (constant .exit)))) ⌝ }
+{
+    clear_wait(locals, counts, measure, operator, coefficients, constant);
+    let row = read_numbers(bytes, at, 1_000_000, locals, 0, 4);
+    let Place::Next(next) = row else {
+        clear_wait(locals, counts, measure, operator, coefficients, constant);
+        let refusal = place_refusal(row);
+        return Number::Refused(refusal);
+    };
+    let answer = read_field(bytes, next, 4, 1, 4);
+    let Number::Got(count, after) = answer else {
+        clear_wait(locals, counts, measure, operator, coefficients, constant);
+        return answer;
+    };
+    let rest = read_alternatives(
+        counts,
+        measure,
+        operator,
+        coefficients,
+        constant,
+        bytes,
+        after,
+        measures,
+        0,
+        count as usize,
+    );
+    let Place::Next(end) = rest else {
+        clear_wait(locals, counts, measure, operator, coefficients, constant);
+        let refusal = place_refusal(rest);
+        return Number::Refused(refusal);
+    };
+    Number::Got(count, end)
 }
