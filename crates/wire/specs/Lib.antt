@@ -10,3 +10,4 @@ pub mod Rows
 pub mod Openings
 pub mod Heads
 pub mod Waits
+pub mod Events
