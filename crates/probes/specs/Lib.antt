@@ -1,0 +1,2 @@
+-- The readers' answers as plain numbers.
+pub mod Answers
