@@ -2,10 +2,10 @@
 use mathlib.Core.Path.{_≡_}
 use Prim.Native.Nat.{ℕ}
 use lib.IntN.{ℤ, pos}
-use Rattle.wire.specs.declared.number.Number.{Number}
-use Rattle.wire.specs.declared.number.Number.the-variants as number
-use Rattle.wire.specs.declared.field.Signed.{Signed}
-use Rattle.wire.specs.declared.field.Signed.the-variants as signed
+use Rattle.fields.specs.declared.number.Number.{Number}
+use Rattle.fields.specs.declared.number.Number.the-variants as number
+use Rattle.fields.specs.declared.field.Signed.{Signed}
+use Rattle.fields.specs.declared.field.Signed.the-variants as signed
 use Rattle.probes.specs.declared.answers.Answer.{Answer}
 use Rattle.probes.specs.declared.answers.SignedAnswer.{SignedAnswer}
 

@@ -1,8 +1,8 @@
 // The readers' answers as plain numbers, since an exported signature may not hold an enum.
 ghost use mathlib.Core.Path.{_≡_};
 ghost use Rattle.probes.specs.Answers.{plain, plainSigned};
-use wire::field::Signed;
-use wire::number::Number;
+use fields::field::Signed;
+use fields::number::Number;
 
 // A number and the place after it, with refusal 0; or a refusal, with the rest 0.
 #[repr(C)]

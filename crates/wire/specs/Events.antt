@@ -16,9 +16,9 @@ use Rattle.rules.specs.Record.{value, condition, ofKind, event}
 use Rattle.rules.specs.Step.{Event, arrive, admit, assign, wait, leave}
 use Rattle.rules.specs.Laws.In.{byBool}
 use Rattle.rules.specs.Laws.Readers.{Sound, sound-field, sound-below, sound-signed}
-use Rattle.wire.specs.Answers.{placeOf}
+use Rattle.fields.specs.Answers.{placeOf}
 use Rattle.wire.specs.Heads.{headAt, kindRead, jobRead, setHead, variableRead, valueRead}
-use Rattle.wire.specs.Places.{at-place}
+use Rattle.fields.specs.Places.{at-place}
 use Rattle.wire.specs.Waits.{Body, numbers}
 use Rattle.wire.specs.declared.head.Head.{Head}
 use Rattle.wire.specs.declared.head.Head.the-variants.{Arrive, Admit, Set, Wait, Leave, Refused, Nothing}

@@ -13,12 +13,12 @@ use Rattle.rules.specs.Base.{if_then_else_}
 use Rattle.rules.specs.Limits.{jobs, variables, valueMost, kindMost}
 use Rattle.rules.specs.Number.{Read, read, refused, field, below, signedField}
 use Rattle.rules.specs.Laws.Readers.{Sound, sound-field, sound-below, sound-signed}
-use Rattle.wire.specs.Answers.{placeOf, asNumber, asSigned, refusalIn, signedRefusal}
-use Rattle.wire.specs.Places.{place-after, number-read, number-refused, signed-read, signed-refused}
-use Rattle.wire.specs.declared.number.Number.{Number}
-use Rattle.wire.specs.declared.number.Number.the-variants as number
-use Rattle.wire.specs.declared.field.Signed.{Signed}
-use Rattle.wire.specs.declared.field.Signed.the-variants as signed
+use Rattle.fields.specs.Answers.{placeOf, asNumber, asSigned, refusalIn, signedRefusal}
+use Rattle.fields.specs.Places.{place-after, number-read, number-refused, signed-read, signed-refused}
+use Rattle.fields.specs.declared.number.Number.{Number}
+use Rattle.fields.specs.declared.number.Number.the-variants as number
+use Rattle.fields.specs.declared.field.Signed.{Signed}
+use Rattle.fields.specs.declared.field.Signed.the-variants as signed
 use Rattle.wire.specs.declared.head.Head.{Head}
 use Rattle.wire.specs.declared.head.Head.the-variants.{Arrive, Admit, Set, Wait, Leave, Refused, Nothing}
 

@@ -8,8 +8,8 @@ use native.Mathlib.Omega.{arith}
 use lib.ListN.{length, drop}
 use Rattle.rules.specs.Number.{Read, read, refused, Reader, after, pure, times}
 use Rattle.rules.specs.Laws.Readers.{Sound}
-use Rattle.wire.specs.Answers.{placeOf}
-use Rattle.wire.specs.Places.{at-place, place-after}
+use Rattle.fields.specs.Answers.{placeOf}
+use Rattle.fields.specs.Places.{at-place, place-after}
 use Rattle.wire.specs.declared.place.Place.{Place}
 use Rattle.wire.specs.declared.place.Place.the-variants.{Next, Refused}
 

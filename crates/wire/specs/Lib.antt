@@ -1,8 +1,5 @@
 -- The answers of the readers, and the laws that their proofs cite.
 pub mod Answers
-pub mod Groups
-pub mod Fields
-pub mod Places
 pub mod Into
 pub mod Numbers
 pub mod Clear

@@ -8,11 +8,11 @@ use lib.Seq.{sets}
 use Rattle.rules.specs.Number.{times, signedField}
 use Rattle.rules.specs.Laws.Readers.{Sound, sound-signed, sound-times}
 use Rattle.rules.specs.Laws.WellFormed.{Numbers}
-use Rattle.wire.specs.Answers.{asSigned, signedRefusal}
+use Rattle.fields.specs.Answers.{asSigned, signedRefusal}
 use Rattle.wire.specs.Into.{Into, Told, told, putAll, all-none, all-no, all-more}
-use Rattle.wire.specs.Places.{signed-read, signed-refused}
-use Rattle.wire.specs.declared.field.Signed.{Signed}
-use Rattle.wire.specs.declared.field.Signed.the-variants as signed
+use Rattle.fields.specs.Places.{signed-read, signed-refused}
+use Rattle.fields.specs.declared.field.Signed.{Signed}
+use Rattle.fields.specs.declared.field.Signed.the-variants as signed
 use Rattle.wire.specs.declared.place.Place.{Place}
 use Rattle.wire.specs.declared.place.Place.the-variants.{Next, Refused}
 

@@ -13,13 +13,14 @@ use Rattle.rules.specs.Record.{coefficient, value, opening}
 use Rattle.rules.specs.Room.{Room, opened}
 use Rattle.rules.specs.Laws.Readers.{Sound, sound-field, sound-times}
 use Rattle.rules.specs.Laws.WellFormed.{sound-coefficient}
-use Rattle.wire.specs.Answers.{placeOf, asNumber, placeRefusal}
+use Rattle.fields.specs.Answers.{placeOf, asNumber}
+use Rattle.wire.specs.Answers.{placeRefusal}
 use Rattle.wire.specs.Into.{Into, told-no}
 use Rattle.wire.specs.Numbers.{ReadInto, putNumbers, put-sets, numbers-sound}
-use Rattle.wire.specs.Places.{number-read, number-refused, place-after}
+use Rattle.fields.specs.Places.{number-read, number-refused, place-after}
 use Rattle.wire.specs.Rows.{flat, with, times-flat}
-use Rattle.wire.specs.declared.number.Number.{Number}
-use Rattle.wire.specs.declared.number.Number.the-variants.{Got, Refused}
+use Rattle.fields.specs.declared.number.Number.{Number}
+use Rattle.fields.specs.declared.number.Number.the-variants.{Got, Refused}
 use Rattle.wire.specs.declared.place.Place.{Place}
 use Rattle.wire.specs.declared.place.Place.the-variants as place
 

@@ -13,13 +13,14 @@ use Rattle.rules.specs.Record.{atom, value, counted, condition}
 use Rattle.rules.specs.Laws.Bounds.{Each}
 use Rattle.rules.specs.Laws.WellFormed.{GivenFits, Parts, sound-atom, sound-counted}
 use Rattle.rules.specs.Laws.Readers.{Sound, sound-field, sound-below, sound-times, read-same, read-refused, refused-same}
-use Rattle.wire.specs.Answers.{placeOf, asNumber, refusalIn, placeRefusal}
+use Rattle.fields.specs.Answers.{placeOf, asNumber, refusalIn}
+use Rattle.wire.specs.Answers.{placeRefusal}
 use Rattle.wire.specs.Into.{Into, told, told-no, putAll, all-none, all-no, all-more}
 use Rattle.wire.specs.Numbers.{ReadInto, putNumbers, put-sets, numbers-sound}
 use Rattle.wire.specs.Openings.{stored-slots}
-use Rattle.wire.specs.Places.{ReadTo, place-after, number-read, number-refused}
-use Rattle.wire.specs.declared.number.Number.{Number}
-use Rattle.wire.specs.declared.number.Number.the-variants as number
+use Rattle.fields.specs.Places.{ReadTo, place-after, number-read, number-refused}
+use Rattle.fields.specs.declared.number.Number.{Number}
+use Rattle.fields.specs.declared.number.Number.the-variants as number
 use Rattle.wire.specs.declared.place.Place.{Place}
 use Rattle.wire.specs.declared.place.Place.the-variants.{Next, Refused}
 

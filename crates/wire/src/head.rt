@@ -3,13 +3,13 @@
 ghost use mathlib.Core.Path.{_≡_};
 ghost use lib.ListN.{drop};
 ghost use Rattle.wire.specs.Heads.{headAt, setHead};
-use crate::field::Signed;
-use crate::field::read_below;
-use crate::field::read_field;
-use crate::field::read_signed;
-use crate::field::refusal_of;
-use crate::field::signed_refusal;
-use crate::number::Number;
+use fields::field::Signed;
+use fields::field::read_below;
+use fields::field::read_field;
+use fields::field::read_signed;
+use fields::field::refusal_of;
+use fields::field::signed_refusal;
+use fields::number::Number;
 
 // A record's job, of a Set its variable and value, and the place after what was read; the refusal; or that no byte is left.
 pub enum Head {

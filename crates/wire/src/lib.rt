@@ -1,8 +1,5 @@
-// Bytes to numbers and records (document 01, "Bytes"): each reader takes the bytes and a place in them, and answers what it read and the
-// next place, or the refusal.
-pub mod field;
+// Records (document 01, "Bytes"): an opening, the head of an event, and the numbers of a Wait, read field by field into lent slots.
 pub mod head;
-pub mod number;
 mod numbers;
 pub mod opening;
 pub mod place;

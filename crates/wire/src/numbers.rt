@@ -6,10 +6,10 @@ ghost use lib.ListN.{length, drop, replicate};
 ghost use Rattle.rules.specs.Number.{times, signedField};
 ghost use Rattle.wire.specs.Into.{Into};
 ghost use Rattle.wire.specs.Numbers.{putNumbers};
-use crate::field::Signed;
-use crate::field::read_signed;
-use crate::field::signed_refusal;
 use crate::place::Place;
+use fields::field::Signed;
+use fields::field::read_signed;
+use fields::field::signed_refusal;
 
 // Every slot becomes 0.
 pub fn clear(out: &mut [i64])

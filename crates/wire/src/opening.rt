@@ -3,12 +3,12 @@ ghost use mathlib.Core.Path.{_≡_};
 ghost use lib.ListN.{drop};
 ghost use Rattle.rules.specs.Record.{opening};
 ghost use Rattle.wire.specs.Openings.{asOpening, coefficientsOf, valuesOf};
-use crate::field::read_field;
-use crate::number::Number;
 use crate::numbers::clear;
 use crate::numbers::read_numbers;
 use crate::place::Place;
 use crate::place::place_refusal;
+use fields::field::read_field;
+use fields::number::Number;
 
 // The measure count and the place after the opening; the coefficients of measure m stand from slot 8 * m on. Slots past the count are 0, and
 // after a refusal every slot is.

@@ -8,15 +8,15 @@ ghost use Rattle.rules.specs.Number.{times};
 ghost use Rattle.rules.specs.Record.{atom, counted};
 ghost use Rattle.wire.specs.Into.{Into};
 ghost use Rattle.wire.specs.Waits.{atomSlots, putAtom, putAtoms, waitSlots, putAlternatives, noLocals, noSlots, numbers, Waits};
-use crate::field::read_below;
-use crate::field::read_field;
-use crate::field::refusal_of;
-use crate::number::Number;
 use crate::numbers::clear;
 use crate::numbers::clear_bytes;
 use crate::numbers::read_numbers;
 use crate::place::Place;
 use crate::place::place_refusal;
+use fields::field::read_below;
+use fields::field::read_field;
+use fields::field::refusal_of;
+use fields::number::Number;
 
 // One atom, into its slot.
 fn read_atom(

@@ -11,8 +11,8 @@ use Rattle.wire.specs.Numbers.{stored-none, stored-refused, stored-more,
 use Rattle.wire.proofs.numbers.read_numbers.Reads as read-numbers
 use Rattle.wire.proofs.numbers.read_numbers.Kinds as read-numbers-kinds
 use Rattle.wire.proofs.numbers.+read_numbers.Lts-read_numbers as read-numbers-lts
-use Rattle.wire.proofs.field.read_signed.Reads as read-signed-reads
-use Rattle.wire.proofs.field.signed_refusal.Reads as signed-refusal-reads
+use Rattle.fields.proofs.field.read_signed.Reads as read-signed-reads
+use Rattle.fields.proofs.field.signed_refusal.Reads as signed-refusal-reads
 use Rattle.wire.proofs.numbers.+read_numbers.{statement}
 use Rattle.wire.proofs.numbers.+read_numbers.Tie.{close}
 

@@ -11,8 +11,8 @@ use Rattle.wire.specs.Waits.{putAlternative, alternatives-no-count, atom
 use Rattle.wire.proofs.wait.read_alternatives.Reads as read-alternatives
 use Rattle.wire.proofs.wait.read_alternatives.Kinds as read-alternatives-kinds
 use Rattle.wire.proofs.wait.+read_alternatives.Lts-read_alternatives as read-alternatives-lts
-use Rattle.wire.proofs.field.read_field.Reads as read-field-reads
-use Rattle.wire.proofs.field.refusal_of.Reads as refusal-of-reads
+use Rattle.fields.proofs.field.read_field.Reads as read-field-reads
+use Rattle.fields.proofs.field.refusal_of.Reads as refusal-of-reads
 use Rattle.wire.proofs.wait.read_atoms.Reads as read-atoms-reads
 use Rattle.wire.proofs.wait.+read_alternatives.{statement}
 use Rattle.wire.proofs.wait.+read_alternatives.Tie.{close}

@@ -2,8 +2,8 @@
 use mathlib.Core.Path.{_∙_, ap}
 use borrow.Author.Needs.{needs}
 use Rattle.probes.specs.Answers.{plain}
-use Rattle.probes.proofs.fields.probe_field.Statement.{statement}
-use Rattle.probes.proofs.fields.probe_field.Tie as tie
+use Rattle.probes.proofs.numbers.probe_field.Statement.{statement}
+use Rattle.probes.proofs.numbers.probe_field.Tie as tie
 
 returns : tie.Need-returns
 returns c = c .plain-of .ensures ∙ ap plain (c .before .read-field .ensures)

@@ -1,8 +1,8 @@
 -- `read_field` meets its contract: one law for each answer.
 use borrow.Author.Needs.{needs}
-use Rattle.wire.specs.Fields.{field-got, field-low, field-high, field-unread}
-use Rattle.wire.proofs.field.read_field.Statement.{statement}
-use Rattle.wire.proofs.field.read_field.Tie as tie
+use Rattle.fields.specs.Fields.{field-got, field-low, field-high, field-unread}
+use Rattle.fields.proofs.field.read_field.Statement.{statement}
+use Rattle.fields.proofs.field.read_field.Tie as tie
 
 ruleset laws = (needs, field-got, field-low, field-high, field-unread)
 

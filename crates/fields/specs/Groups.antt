@@ -12,9 +12,9 @@ use lib.ListN.{getD, drop, length, length-drop, drop-of-length-le}
 use lib.Seq.{drop-cons}
 use Rattle.rules.specs.Laws.In.{true-not-false}
 use Rattle.rules.specs.Number.{Read, read, refused, badGroup, groups, pure, after}
-use Rattle.wire.specs.Answers.{placeOf, asNumber}
-use Rattle.wire.specs.declared.number.Number.{Number}
-use Rattle.wire.specs.declared.number.Number.the-variants.{Got, Refused}
+use Rattle.fields.specs.Answers.{placeOf, asNumber}
+use Rattle.fields.specs.declared.number.Number.{Number}
+use Rattle.fields.specs.declared.number.Number.the-variants.{Got, Refused}
 
 -- ---- the test of a group
 module _ (place b : ℕ) where

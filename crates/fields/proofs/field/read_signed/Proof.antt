@@ -1,8 +1,8 @@
 -- `read_signed` meets its contract: one law for each answer.
 use borrow.Author.Needs.{needs}
-use Rattle.wire.specs.Fields.{signed-got, signed-far, signed-unread}
-use Rattle.wire.proofs.field.read_signed.Statement.{statement}
-use Rattle.wire.proofs.field.read_signed.Tie as tie
+use Rattle.fields.specs.Fields.{signed-got, signed-far, signed-unread}
+use Rattle.fields.proofs.field.read_signed.Statement.{statement}
+use Rattle.fields.proofs.field.read_signed.Tie as tie
 
 ruleset laws = (needs, signed-got, signed-far, signed-unread)
 

@@ -9,10 +9,10 @@ use lib.Dec.{leb, ltb}
 use lib.IntN.{ℤ, natAbs}
 use Rattle.rules.specs.Number.{Read, read, refused, number, signed, only, after, field, below, signedField}
 use Rattle.integers.specs.Mapping.{size-of}
-use Rattle.wire.specs.Answers.{asNumber, asSigned, refusalIn}
-use Rattle.wire.specs.declared.number.Number.{Number}
-use Rattle.wire.specs.declared.number.Number.the-variants.{Got, Refused}
-use Rattle.wire.specs.declared.field.Signed.the-variants as signed-answer
+use Rattle.fields.specs.Answers.{asNumber, asSigned, refusalIn}
+use Rattle.fields.specs.declared.number.Number.{Number}
+use Rattle.fields.specs.declared.number.Number.the-variants.{Got, Refused}
+use Rattle.fields.specs.declared.field.Signed.the-variants as signed-answer
 
 -- ---- a number was read, and then judged
 module _ (bytes l : List ℕ) {r : Number} (from : r ≡ asNumber bytes (number l)) where

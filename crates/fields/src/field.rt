@@ -2,7 +2,7 @@
 ghost use mathlib.Core.Path.{_≡_};
 ghost use lib.ListN.{drop};
 ghost use Rattle.rules.specs.Number.{field, below, signedField};
-ghost use Rattle.wire.specs.Answers.{asNumber, asSigned, refusalIn, signedRefusal};
+ghost use Rattle.fields.specs.Answers.{asNumber, asSigned, refusalIn, signedRefusal};
 use crate::number::Number;
 use crate::number::read_number;
 use integers::signed_of;

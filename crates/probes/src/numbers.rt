@@ -2,17 +2,17 @@
 ghost use mathlib.Core.Path.{_≡_};
 ghost use lib.ListN.{drop};
 ghost use Rattle.rules.specs.Number.{number, field, below, signed, signedField};
-ghost use Rattle.wire.specs.Answers.{asNumber, asSigned};
+ghost use Rattle.fields.specs.Answers.{asNumber, asSigned};
 ghost use Rattle.probes.specs.Answers.{plain, plainSigned};
 use crate::answers::Answer;
 use crate::answers::SignedAnswer;
 use crate::answers::plain_of;
 use crate::answers::plain_signed_of;
+use fields::field::read_below;
+use fields::field::read_field;
+use fields::field::read_signed;
+use fields::number::read_number;
 use integers::signed_of;
-use wire::field::read_below;
-use wire::field::read_field;
-use wire::field::read_signed;
-use wire::number::read_number;
 
 #[no_mangle]
 pub extern "C" fn probe_number(bytes: &[u8], at: usize) -> Answer

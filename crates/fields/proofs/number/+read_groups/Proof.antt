@@ -5,14 +5,14 @@ use borrow.Author.Needs.{needs}
 use borrow.Fn.Kinds.{In}
 use borrow.Fn.PlainCycle.{Measures, is, falls, and}
 use native.Mathlib.Omega.{arith}
-use Rattle.wire.specs.Groups.{groups-ended, groups-bad, groups-last, last-bounded, groups-more, groups-refused, most-step, most-most, not-fifth, groupsMost, got-bounded, refused-bounded}
-use Rattle.wire.proofs.number.read_groups.Reads as read-groups
-use Rattle.wire.proofs.number.read_groups.Kinds as read-groups-kinds
-use Rattle.wire.proofs.number.+read_groups.Lts-read_groups as read-groups-lts
-use Rattle.wire.proofs.number.bad_group.Reads as bad-group-reads
-use Rattle.wire.proofs.number.wide.Reads as wide-reads
-use Rattle.wire.proofs.number.+read_groups.{statement}
-use Rattle.wire.proofs.number.+read_groups.Tie.{close}
+use Rattle.fields.specs.Groups.{groups-ended, groups-bad, groups-last, last-bounded, groups-more, groups-refused, most-step, most-most, not-fifth, groupsMost, got-bounded, refused-bounded}
+use Rattle.fields.proofs.number.read_groups.Reads as read-groups
+use Rattle.fields.proofs.number.read_groups.Kinds as read-groups-kinds
+use Rattle.fields.proofs.number.+read_groups.Lts-read_groups as read-groups-lts
+use Rattle.fields.proofs.number.bad_group.Reads as bad-group-reads
+use Rattle.fields.proofs.number.wide.Reads as wide-reads
+use Rattle.fields.proofs.number.+read_groups.{statement}
+use Rattle.fields.proofs.number.+read_groups.Tie.{close}
 
 ruleset laws = (needs, groups-ended, groups-bad, groups-last, last-bounded, groups-more, groups-refused)
 

@@ -9,11 +9,11 @@ use lib.ListN.{length, drop, length-drop, drop-of-length-le}
 use lib.Seq.{drop-drop}
 use Rattle.rules.specs.Number.{Read, read, refused, Reader}
 use Rattle.rules.specs.Laws.Readers.{Took, Sound}
-use Rattle.wire.specs.Answers.{placeOf, asNumber, asSigned, refusalIn, signedRefusal}
-use Rattle.wire.specs.declared.number.Number.{Number}
-use Rattle.wire.specs.declared.number.Number.the-variants as number
-use Rattle.wire.specs.declared.field.Signed.{Signed}
-use Rattle.wire.specs.declared.field.Signed.the-variants as signed
+use Rattle.fields.specs.Answers.{placeOf, asNumber, asSigned, refusalIn, signedRefusal}
+use Rattle.fields.specs.declared.number.Number.{Number}
+use Rattle.fields.specs.declared.number.Number.the-variants as number
+use Rattle.fields.specs.declared.field.Signed.{Signed}
+use Rattle.fields.specs.declared.field.Signed.the-variants as signed
 
 -- the place of what is left after n bytes
 pub place-after : (bytes : List ℕ) (n : ℕ) → n ≤ length bytes → placeOf bytes (drop n bytes) ≡ n

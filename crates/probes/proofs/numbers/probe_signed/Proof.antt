@@ -2,8 +2,8 @@
 use mathlib.Core.Path.{_∙_, ap}
 use borrow.Author.Needs.{needs}
 use Rattle.probes.specs.Answers.{plainSigned}
-use Rattle.probes.proofs.fields.probe_signed.Statement.{statement}
-use Rattle.probes.proofs.fields.probe_signed.Tie as tie
+use Rattle.probes.proofs.numbers.probe_signed.Statement.{statement}
+use Rattle.probes.proofs.numbers.probe_signed.Tie as tie
 
 returns : tie.Need-returns
 returns c = c .plain-signed-of .ensures ∙ ap plainSigned (c .before .read-signed .ensures)

@@ -1,8 +1,8 @@
 -- `read_below` meets its contract: one law for each answer.
 use borrow.Author.Needs.{needs}
-use Rattle.wire.specs.Fields.{below-got, below-high, below-unread}
-use Rattle.wire.proofs.field.read_below.Statement.{statement}
-use Rattle.wire.proofs.field.read_below.Tie as tie
+use Rattle.fields.specs.Fields.{below-got, below-high, below-unread}
+use Rattle.fields.proofs.field.read_below.Statement.{statement}
+use Rattle.fields.proofs.field.read_below.Tie as tie
 
 ruleset laws = (needs, below-got, below-high, below-unread)
 

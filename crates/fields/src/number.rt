@@ -3,8 +3,8 @@ ghost use mathlib.Core.Path.{_≡_};
 ghost use Prim.Native.Nat.{_<_, _≤_};
 ghost use lib.ListN.{drop};
 ghost use Rattle.rules.specs.Number.{badGroup, groups, number};
-ghost use Rattle.wire.specs.Answers.{asNumber};
-ghost use Rattle.wire.specs.Groups.{Bounded};
+ghost use Rattle.fields.specs.Answers.{asNumber};
+ghost use Rattle.fields.specs.Groups.{Bounded};
 
 // A number and the place after it, or refusal 1 or 2 (and, of a field, 3 or 4).
 pub enum Number {
