@@ -1,7 +1,7 @@
 -- "Conditions": measure, closure, truth, identity.
 use mathlib.Core.Bool.{Bool, true, false, not, _&&_}
 use mathlib.Core.List.{List, [], _∷_, map}
-use Prim.Native.Nat.{ℕ, zero, suc, pred}
+use Prim.Native.Nat.{ℕ}
 use lib.Dec.{eqb}
 use lib.ListN.{getD}
 use lib.IntN.{ℤ, pos, _+ℤ_, _*ℤ_}
@@ -38,9 +38,9 @@ close locals a = record { measure = a .measure; operator = a .operator; key = pr
 abbrev pub closure : List ℤ → List (List Given) → Condition
 closure locals = map (map (close locals))
 
--- of a measure's value x and a key k: 1 =, 2 ≠, 3 <, 4 ≤, 5 >, 6 ≥
+-- of a measure's value x and a key k: 1 =, 2 ≠, 3 <, 4 ≤, 5 >, 6 ≥, and no other operator holds
 abbrev pub compares : ℕ → ℤ → ℤ → Bool
-compares operator x k = getD (eqZ x k ∷ not (eqZ x k) ∷ ltZ x k ∷ leZ x k ∷ ltZ k x ∷ leZ k x ∷ []) (pred operator) false
+compares operator x k = getD (false ∷ eqZ x k ∷ not (eqZ x k) ∷ ltZ x k ∷ leZ x k ∷ ltZ k x ∷ leZ k x ∷ []) operator false
 
 -- what is true is said over the values of the measures
 module _ (now : List ℤ) where

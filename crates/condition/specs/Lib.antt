@@ -1,0 +1,6 @@
+-- Conditions in lent arrays, and the laws that the proofs cite.
+pub mod Compare
+pub mod Measures
+pub mod Closed
+pub mod Along
+pub mod Truth

@@ -1,0 +1,5 @@
+// Conditions over lent arrays (document 01, "Conditions"): a measure's value, the truth of an atom, an alternative and a condition, tags,
+// identity, and closure.
+pub mod compare;
+pub mod measure;
+pub mod truth;
