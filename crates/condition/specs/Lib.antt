@@ -4,3 +4,4 @@ pub mod Measures
 pub mod Closed
 pub mod Along
 pub mod Truth
+pub mod Tags

@@ -2,4 +2,5 @@
 // identity, and closure.
 pub mod compare;
 pub mod measure;
+pub mod tag;
 pub mod truth;

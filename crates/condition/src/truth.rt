@@ -14,7 +14,7 @@ fn wide(x: u8) -> usize
 }
 
 // A count, which is at most four.
-fn count_of(n: u8) -> usize
+pub fn count_of(n: u8) -> usize
     ensures { λ r. ⌜ r ≡ min n 4 ⌝ }
 {
     if n < 4 { n as usize } else { 4 }
