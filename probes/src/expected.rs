@@ -1,5 +1,7 @@
 //! What the second implementation answers, in the form of the proved readers' answers.
 
+pub mod events;
+
 use crate::{Answer, SignedAnswer, COEFFICIENTS, VALUES};
 use second::limits::VARIABLES;
 use second::number;

@@ -1,8 +1,11 @@
 //! The proved readers, called from Rust: what crates/probes exports, each function declared once
 //! and wrapped in a safe one. `tools/test-probes` builds the archive and runs the tests.
 
+pub mod events;
 pub mod expected;
+pub mod extremes;
 pub mod strings;
+pub mod trial;
 
 /// Measures times variables, and variables: the slots lent to an opening.
 pub const COEFFICIENTS: usize = 128;

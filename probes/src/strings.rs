@@ -3,6 +3,7 @@
 use second::random::Random;
 
 pub const LENGTH_MOST: usize = 40;
+pub const EVENTFUL_MOST: usize = 60;
 
 /// Bytes at which something changes: the last group or one more, 0 alone or after others, a fifth
 /// byte that fits or not.
@@ -13,6 +14,29 @@ pub fn short(random: &mut Random) -> Vec<u8> {
     let length = random.below(LENGTH_MOST + 1);
     let kind = random.below(3);
     (0..length).map(|_| byte(random, kind)).collect()
+}
+
+/// A string of 0 to 60 bytes, mostly of small ones, which come through more fields before one is
+/// refused, and often with the kind and job of a Wait somewhere.
+pub fn eventful(random: &mut Random) -> Vec<u8> {
+    let length = random.below(EVENTFUL_MOST + 1);
+    let bound = random.pick(&[3, 6, 8, 32, 128, 256]);
+    let mut bytes: Vec<u8> = (0..length)
+        .map(|_| match random.below(32) {
+            0 => random.byte(),
+            1 => random.pick(&TELLING),
+            _ => random.below(bound) as u8,
+        })
+        .collect();
+    if random.once_in(4) {
+        return bytes;
+    }
+    let at = random.pick(&[0, 1, 10]);
+    if let Some([kind, job]) = bytes.get_mut(at..at + 2) {
+        *kind = 4;
+        *job = random.below(32) as u8;
+    }
+    bytes
 }
 
 fn byte(random: &mut Random, kind: usize) -> u8 {

@@ -1,9 +1,10 @@
 //! Openings, and what the lent slots hold after them.
 
 use probes::expected::{self, got, refused, Opened};
+use probes::extremes;
 use probes::strings::short;
 use probes::{opening, COEFFICIENTS, VALUES};
-use second::limits::{COEFFICIENT_MOST, MEASURES_MOST, VALUE_MOST, VARIABLES};
+use second::limits::{MEASURES_MOST, VARIABLES};
 use second::random::Random;
 use second::record::Opening;
 use second::spoil::every_spoiling;
@@ -37,43 +38,13 @@ fn refused_opening(refusal: u8) -> Opened {
     }
 }
 
-fn one_of(random: &mut Random, most: i64) -> i64 {
-    let any = random.between(-most, most);
-    random.pick(&[
-        most,
-        -most,
-        most - 1,
-        1 - most,
-        0,
-        1,
-        -1,
-        63,
-        64,
-        -64,
-        -65,
-        any,
-    ])
-}
-
-fn extreme(random: &mut Random, measure_count: usize) -> Opening {
-    let mut row = |most| {
-        let mut row = [0; VARIABLES];
-        row.iter_mut().for_each(|slot| *slot = one_of(random, most));
-        row
-    };
-    Opening {
-        measures: (0..measure_count).map(|_| row(COEFFICIENT_MOST)).collect(),
-        values: row(VALUE_MOST),
-    }
-}
-
 /// Calls `try_one` with openings of every measure count.
 fn for_openings(mut try_one: impl FnMut(u64, &mut Random, &Opening)) {
     for measure_count in 1..=MEASURES_MOST {
         for round in 0..OPENINGS {
             let seed = FIRST_SEED + measure_count as u64 * OPENINGS + round;
             let mut random = Random::new(seed);
-            let opening = extreme(&mut random, measure_count);
+            let opening = extremes::opening(&mut random, measure_count);
             try_one(seed, &mut random, &opening);
         }
     }

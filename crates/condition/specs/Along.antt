@@ -1,11 +1,11 @@
 -- `all` and `any` along places, one place after the other: the laws' premises are the facts that a loop has at its test.
-use mathlib.Core.Path.{_≡_, refl, sym, _∙_}
+use mathlib.Core.Path.{_≡_, refl, sym, ap, _∙_}
 use mathlib.Core.Bool.{Bool, true, false, _&&_}
 use mathlib.Core.List.{List, [], _∷_}
-use Prim.Native.Nat.{ℕ, suc, _+_, _-_, _<_, _≤_}
+use Prim.Native.Nat.{ℕ, zero, suc, _+_, _-_, _<_, _≤_}
 use native.Mathlib.Nat.{sub-zero, add-zero}
 use native.Mathlib.Omega.{arith}
-use Rattle.rules.specs.Base.{if_then_else_, all, any}
+use Rattle.rules.specs.Base.{if_then_else_, all, any, each}
 use Rattle.condition.specs.Closed.{from}
 
 left-one : (n i : ℕ) → i < n → n - i ≡ suc (n - (i + 1))
@@ -56,3 +56,37 @@ module _ {A : Type 0} (t : A → Bool) (f : ℕ → A) (n p : ℕ) where
 
     pub any-done : {r : Bool} → n ≤ i → anyLeft t f n i p ≡ r → false ≡ r
     any-done h e = rw (left-none n i h) at e
+
+-- ---- two lists alike, place by place
+module _ {A : Type 0} (same : A → A → Bool) (f g : ℕ → A) (n i p q : ℕ) where
+  abbrev pub eachLeft : Bool
+  eachLeft = each same (from f (n - i) (p + i)) (from g (n - i) (q + i))
+
+module _ {A : Type 0} (same : A → A → Bool) (f g : ℕ → A) where
+  -- lists of different lengths are not alike
+  pub each-apart : (n m p q : ℕ) → (n ≡ m → ⊥) → false ≡ each same (from f n p) (from g m q)
+  each-apart zero zero p q h = absurd (h refl)
+  each-apart zero (suc m) p q h = refl
+  each-apart (suc n) zero p q h = refl
+  each-apart (suc n) (suc m) p q h = each-apart n m (suc p) (suc q) (λ e. h (ap suc e)) ∙ both-false (same (f p) (g q)) (each-apart n m (suc p) (suc q) (λ e. h (ap suc e)))
+    where
+      both-false : (t : Bool) {u : Bool} → false ≡ u → u ≡ (t && u)
+      both-false true e = refl
+      both-false false e = sym e
+
+  module _ (n p q : ℕ) where
+    pub each-start : {m : ℕ} → n ≡ m → eachLeft same f g n 0 p q ≡ each same (from f n p) (from g m q)
+    each-start e = rw (sub-zero n, add-zero p, add-zero q, e)
+
+    module _ (i : ℕ) where
+      each-step : i < n → eachLeft same f g n i p q ≡ (same (f (p + i)) (g (q + i)) && eachLeft same f g n (i + 1) p q)
+      each-step h = rw (left-one n i h, next p i, next q i)
+
+      pub each-more : {r b : Bool} → i < n → eachLeft same f g n i p q ≡ r → b ≡ same (f (p + i)) (g (q + i)) → b ≡ true → eachLeft same f g n (i + 1) p q ≡ r
+      each-more h e d u = rw (sym d ∙ u) at (sym (each-step h)) ∙ e
+
+      pub each-stop : {r b : Bool} → i < n → eachLeft same f g n i p q ≡ r → b ≡ same (f (p + i)) (g (q + i)) → b ≡ false → false ≡ r
+      each-stop h e d u = rw (sym d ∙ u) at (sym (each-step h)) ∙ e
+
+      pub each-done : {r : Bool} → n ≤ i → eachLeft same f g n i p q ≡ r → true ≡ r
+      each-done h e = rw (left-none n i h) at e

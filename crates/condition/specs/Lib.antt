@@ -5,3 +5,4 @@ pub mod Closed
 pub mod Along
 pub mod Truth
 pub mod Tags
+pub mod Identity

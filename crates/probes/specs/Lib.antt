@@ -1,2 +1,3 @@
 -- The readers' answers as plain numbers.
 pub mod Answers
+pub mod Heads
