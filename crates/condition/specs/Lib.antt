@@ -6,3 +6,4 @@ pub mod Along
 pub mod Truth
 pub mod Tags
 pub mod Identity
+pub mod Closing

@@ -1,5 +1,6 @@
 // Conditions over lent arrays (document 01, "Conditions"): a measure's value, the truth of an atom, an alternative and a condition, tags,
 // identity, and closure.
+pub mod closure;
 pub mod compare;
 pub mod identity;
 pub mod measure;
