@@ -84,7 +84,7 @@ sets-more out p (x ∷ l) a = sets-more (set out p x) (suc p) l a ∙ ap (λ k. 
     e : suc p + length l ≡ p + suc (length l)
     e = omega arith
 
-from-many : {A : Type 0} (f : ℕ → A) (n p : ℕ) → length (from f n p) ≡ n
+pub from-many : {A : Type 0} (f : ℕ → A) (n p : ℕ) → length (from f n p) ≡ n
 from-many f zero p = refl
 from-many f (suc n) p = ap suc (from-many f n (suc p))
 

@@ -7,3 +7,4 @@ pub mod Truth
 pub mod Tags
 pub mod Identity
 pub mod Closing
+pub mod Closes
