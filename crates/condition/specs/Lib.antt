@@ -8,3 +8,4 @@ pub mod Tags
 pub mod Identity
 pub mod Closing
 pub mod Closes
+pub mod Board
