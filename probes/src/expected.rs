@@ -1,5 +1,6 @@
 //! What the second implementation answers, in the form of the proved readers' answers.
 
+pub mod conditions;
 pub mod events;
 
 use crate::{Answer, SignedAnswer, COEFFICIENTS, VALUES};

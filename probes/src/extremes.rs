@@ -36,18 +36,21 @@ pub fn event(random: &mut Random, kind: u8, measure_count: usize) -> Event {
     }
 }
 
+pub fn condition(random: &mut Random, measure_count: usize) -> WrittenCondition {
+    WrittenCondition {
+        locals: row(random, VALUE_MOST),
+        alternatives: shape(random, |random| atom(random, measure_count)),
+    }
+}
+
 /// 1 to 4 alternatives, and in each 1 to 4 atoms.
-fn condition(random: &mut Random, measure_count: usize) -> WrittenCondition {
-    let locals = row(random, VALUE_MOST);
+pub fn shape<T>(random: &mut Random, mut atom: impl FnMut(&mut Random) -> T) -> Vec<Vec<T>> {
     let mut alternatives = Vec::new();
     for _ in 0..1 + random.below(ALTERNATIVES_MOST) {
         let count = 1 + random.below(ATOMS_MOST);
-        alternatives.push((0..count).map(|_| atom(random, measure_count)).collect());
+        alternatives.push((0..count).map(|_| atom(random)).collect());
     }
-    WrittenCondition {
-        locals,
-        alternatives,
-    }
+    alternatives
 }
 
 fn atom(random: &mut Random, measure_count: usize) -> WrittenAtom {
@@ -65,7 +68,7 @@ fn row<const COUNT: usize>(random: &mut Random, most: i64) -> [i64; COUNT] {
     row
 }
 
-fn one_of(random: &mut Random, most: i64) -> i64 {
+pub fn one_of(random: &mut Random, most: i64) -> i64 {
     let any = random.between(-most, most);
     random.pick(&[
         most,
@@ -83,7 +86,7 @@ fn one_of(random: &mut Random, most: i64) -> i64 {
     ])
 }
 
-fn one_below(random: &mut Random, bound: usize) -> usize {
+pub fn one_below(random: &mut Random, bound: usize) -> usize {
     let any = random.below(bound);
     random.pick(&[0, bound - 1, any])
 }

@@ -1,9 +1,13 @@
-//! The proved readers, called from Rust: what crates/probes exports, each function declared once
-//! and wrapped in a safe one. `tools/test-probes` builds the archive and runs the tests.
+//! The proved readers and conditions, called from Rust: what crates/probes exports, each function
+//! declared once and wrapped in a safe one. `tools/test-probes` builds the archive and runs the
+//! tests.
 
+pub mod conditions;
+pub mod draw;
 pub mod events;
 pub mod expected;
 pub mod extremes;
+pub mod farthest;
 pub mod strings;
 pub mod trial;
 

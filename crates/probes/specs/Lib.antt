@@ -1,3 +1,4 @@
--- The readers' answers as plain numbers.
+-- The readers' answers and tags as plain numbers.
 pub mod Answers
 pub mod Heads
+pub mod Tags

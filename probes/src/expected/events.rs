@@ -126,7 +126,7 @@ pub fn whole(event: &Event, at: usize, next: usize) -> EventAnswer {
     }
 }
 
-fn slots_of(condition: &WrittenCondition) -> WaitSlots {
+pub fn slots_of(condition: &WrittenCondition) -> WaitSlots {
     let mut slots = WaitSlots::CLEAR;
     slots.locals = condition.locals;
     for (alternative, atoms) in condition.alternatives.iter().enumerate() {
