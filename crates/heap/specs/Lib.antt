@@ -2,3 +2,4 @@
 pub mod Places
 pub mod Sinks
 pub mod Roots
+pub mod Drains

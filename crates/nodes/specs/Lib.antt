@@ -5,3 +5,4 @@ pub mod Order
 pub mod Holes
 pub mod Rises
 pub mod Finds
+pub mod Sorted

@@ -1,0 +1,31 @@
+-- Taking root after root off a heap gives its nodes in the order of their ranks: the root ranks first, and what is left holds the rest.
+use mathlib.Core.Path.{_≡_, sym, ap, _∙_}
+use mathlib.Core.List.{List, _∷_}
+use Prim.Native.Nat.{ℕ, _+_, _<_, _≤_}
+use native.Mathlib.Omega.{arith}
+use lib.ListN.{getD}
+use Rattle.nodes.specs.Counts.{count, count-find}
+use Rattle.nodes.specs.Order.{Ordered}
+use Rattle.nodes.specs.Holes.{value}
+use Rattle.nodes.specs.Rises.{Removed}
+use Rattle.nodes.specs.Sorted.{sorted, times, Ascending, Apart, sorted-times, sorted-ascending, one-order}
+use Rattle.heap.specs.Places.{above}
+use Rattle.heap.specs.Roots.{root-first}
+
+module _ (rank : ℕ → ℕ) (l m : List ℕ) (n : ℕ) where
+  pub root-then-rest : Ordered above (value rank l) (n + 1) → Apart rank (sorted rank l (n + 1)) → Removed above rank l m n 0 →
+      sorted rank l (n + 1) ≡ getD l 0 0 ∷ sorted rank m n
+  unfolding times Ascending
+  root-then-rest o d r =
+      one-order rank (sorted rank l (n + 1)) (getD l 0 0 ∷ sorted rank m n) (sorted-ascending rank l (n + 1)) (
+        (λ z h. let f : (j : ℕ) × (j < n + 1) × (getD l j 0 ≡ z) = count-find l (n + 1) z (omega (arith, sorted-times rank m n z, r .has z)) in
+            omega (arith, ap rank (f .2), root-first (value rank l) (n + 1) (f .0) o (f .1))),
+        sorted-ascending rank m n,
+      )
+      (λ z. omega (arith, sorted-times rank l (n + 1) z, sorted-times rank m n z, r .has z)) d
+
+-- two heaps with the same contents drain alike, whatever their arrangement
+pub drains-alike : (rank : ℕ → ℕ) (l m : List ℕ) (n k : ℕ) → Apart rank (sorted rank l n) → ((z : ℕ) → count l n z ≡ count m k z) → sorted rank l n ≡ sorted rank m k
+drains-alike rank l m n k d e =
+    one-order rank (sorted rank l n) (sorted rank m k) (sorted-ascending rank l n) (sorted-ascending rank m k)
+    (λ z. sorted-times rank l n z ∙ e z ∙ sym (sorted-times rank m k z)) d
