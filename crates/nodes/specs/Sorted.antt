@@ -72,7 +72,7 @@ module _ (rank : ℕ → ℕ) where
   sorted-ascending l zero = tt
   sorted-ascending l (suc n) = among-ascending (getD l n 0) (sorted rank l n) (sorted-ascending l n)
 
-  head-least : (x : ℕ) (l : List ℕ) → Ascending rank (x ∷ l) → (z : ℕ) → 0 < times (x ∷ l) z → rank x ≤ rank z
+  pub head-least : (x : ℕ) (l : List ℕ) → Ascending rank (x ∷ l) → (z : ℕ) → 0 < times (x ∷ l) z → rank x ≤ rank z
   unfolding times Ascending
   head-least x l a z h = byEq x z (λ d. omega (arith, ap rank d)) (λ d. a .0 z (omega (arith, is-not x z d)))
 

@@ -11,7 +11,7 @@ pub enum Walk {
 }
 
 // A node is below 128.
-fn node_true(
+pub fn node_true(
     coefficients: &[i64; 128],
     values: &[i64; 8],
     atoms: &[u8; 128],
