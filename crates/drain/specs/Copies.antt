@@ -13,8 +13,8 @@ use Rattle.nodes.specs.Sorted.{sorted, Apart}
 use Rattle.nodes.specs.Rises.{Removed}
 use Rattle.heap.specs.Places.{above, above-lt}
 use Rattle.walk.specs.declared.Walk.{Walk}
-use Rattle.walk.specs.Walks.{walked}
-use Rattle.drain.specs.Drained.{while, Left, none-before, left-passes}
+use Rattle.walk.specs.Walks.{walked, none-before}
+use Rattle.drain.specs.Drained.{while, Left, left-passes}
 
 -- m is what k becomes when the first n places of l are put there
 pub record Copied (l k m : List ℕ) (n : ℕ) : Type 0 where

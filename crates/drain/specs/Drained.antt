@@ -19,7 +19,7 @@ use Rattle.heap.specs.Places.{above}
 use Rattle.heap.specs.Drains.{root-then-rest, root-heads}
 use Rattle.walk.specs.declared.Walk.{Walk}
 use Rattle.walk.specs.declared.Walk.the-variants.{Found, Nobody}
-use Rattle.walk.specs.Walks.{told, walked}
+use Rattle.walk.specs.Walks.{told, walkedOn}
 
 -- the tag of a node's alternative holds; a node is below 128
 abbrev pub nodeTag : List ℤ → List ℕ → List ℕ → List ℕ → List ℤ → ℕ → Bool
@@ -29,17 +29,6 @@ nodeTag now atoms measure operator key node = holds now (tagMeans measure operat
 unfoldable pub while : (ℕ → Bool) → List ℕ → List ℕ
 while tag [] = []
 while tag (x ∷ l) = if tag x then x ∷ while tag l else []
-
--- with so many evaluated before
-unfoldable pub walkedOn : (ℕ → Bool) → ℕ → List ℕ → Walk
-walkedOn test before nodes = told (first test nodes) (before + upTo test nodes)
-
-pub none-before : (test : ℕ → Bool) (nodes : List ℕ) → walkedOn test 0 nodes ≡ walked test nodes
-unfolding walkedOn walked
-none-before test nodes = ap (told (first test nodes)) (none (upTo test nodes))
-  where
-    none : (k : ℕ) → 0 + k ≡ k
-    none k = omega arith
 
 -- what is left in the heap, n nodes after so many evaluated, leads to w
 pub record Left (rank : ℕ → ℕ) (tag test : ℕ → Bool) (heap : List ℕ) (n before : ℕ) (w : Walk) : Type 0 where

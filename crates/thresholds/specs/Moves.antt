@@ -27,6 +27,7 @@ pub record Put (rank : ℕ → ℕ) (l lengths m lengths′ : List ℕ) (g x : �
   pub counted : lengths′ ≡ set lengths g (getD lengths g 0 + 1)
   pub order : InHeapOrder rank l lengths g → InHeapOrder rank m lengths′ g
   pub has : (z : ℕ) → holds m lengths′ g z ≡ holds l lengths g z + is x z
+  pub past : (j : ℕ) → getD lengths g 0 + 1 ≤ j → getD (region m g) j 0 ≡ getD (region l g) j 0
   pub others : (h : ℕ) → h < 32 → (h ≡ g → ⊥) → region m h ≡ region l h
 
 -- node x was taken out of heap g
@@ -35,6 +36,7 @@ pub record Cut (rank : ℕ → ℕ) (l lengths m lengths′ : List ℕ) (g x : �
   pub counted : lengths′ ≡ set lengths g (getD lengths g 0 - 1)
   pub order : InHeapOrder rank l lengths g → InHeapOrder rank m lengths′ g
   pub has : (z : ℕ) → holds m lengths′ g z + is x z ≡ holds l lengths g z
+  pub past : (j : ℕ) → getD lengths g 0 ≤ j → getD (region m g) j 0 ≡ getD (region l g) j 0
   pub others : (h : ℕ) → h < 32 → (h ≡ g → ⊥) → region m h ≡ region l h
 
 -- a heap that holds x is not empty, and x stands below its length; k is the number of its places
@@ -68,6 +70,7 @@ module _ (rank : ℕ → ℕ) (l lengths p : List ℕ) (g x k : ℕ) (fits : 409
         counted = refl;
         order = λ o. rw (here, n) (s .order o);
         has = λ z. rw (here, n) (s .has z);
+        past = λ j h. rw here (s .past j h);
         others = region-other l p g fits one same;
       })
 
@@ -89,5 +92,6 @@ module _ (rank : ℕ → ℕ) (l lengths p : List ℕ) (g x k : ℕ) (fits : 409
         counted = refl;
         order = λ o. rw (here, new) (s .order (rw full at o));
         has = λ z. rw (here, new) (rw (x′, ← full) at (s .has z));
+        past = λ j h. rw here (s .past j (omega arith));
         others = region-other l p g fits one same;
       })

@@ -1,5 +1,6 @@
 // Thirty-two heaps over one lent slice: for each measure one of the alternatives tagged with > or ≥ and one of those tagged with < or ≤. A heap
 // has 128 places, more than a room has nodes; `lengths` says how many of them hold one.
+ghost use mathlib.Core.Path.{_≡_};
 ghost use Prim.Native.Nat.{_<_, _≤_};
 ghost use lib.ListN.{getD, length};
 ghost use Rattle.nodes.specs.Ranks.{rank};
@@ -17,7 +18,7 @@ pub fn put(
     g: usize,
     x: u8,
 )
-    requires { ⌜ 4096 ≤ length (now heaps) ⌝ ∗ ⌜ 32 ≤ length (now lengths) ⌝ ∗ ⌜ g < 32 ⌝ ∗ ⌜ getD (now lengths) g 0 < 128 ⌝ }
+    requires { ⌜ length (now heaps) ≡ 4096 ⌝ ∗ ⌜ 32 ≤ length (now lengths) ⌝ ∗ ⌜ g < 32 ⌝ ∗ ⌜ getD (now lengths) g 0 < 128 ⌝ }
     ensures { λ _. ⌜ Put (rank (now (high .entry)) (now (low .entry))) (now (heaps .entry)) (now (lengths .entry)) (now (heaps .exit)) (now (lengths .exit)) g x ⌝ }
 {
     let start = g * 128;
@@ -36,7 +37,7 @@ pub fn cut(
     g: usize,
     x: u8,
 )
-    requires { ⌜ 4096 ≤ length (now heaps) ⌝ ∗ ⌜ 32 ≤ length (now lengths) ⌝ ∗ ⌜ g < 32 ⌝ ∗ ⌜ getD (now lengths) g 0 ≤ 128 ⌝ ∗ ⌜ 0 < holds (now heaps) (now lengths) g x ⌝ }
+    requires { ⌜ length (now heaps) ≡ 4096 ⌝ ∗ ⌜ 32 ≤ length (now lengths) ⌝ ∗ ⌜ g < 32 ⌝ ∗ ⌜ getD (now lengths) g 0 ≤ 128 ⌝ ∗ ⌜ 0 < holds (now heaps) (now lengths) g x ⌝ }
     ensures { λ _. ⌜ Cut (rank (now (high .entry)) (now (low .entry))) (now (heaps .entry)) (now (lengths .entry)) (now (heaps .exit)) (now (lengths .exit)) g x ⌝ }
 {
     let start = g * 128;

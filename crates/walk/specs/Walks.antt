@@ -27,29 +27,33 @@ told none count = Nobody count
 unfoldable pub walked : (ℕ → Bool) → List ℕ → Walk
 walked test nodes = told (first test nodes) (upTo test nodes)
 
+-- the same with so many evaluated before: a stretch of a longer walk
+unfoldable pub walkedOn : (ℕ → Bool) → ℕ → List ℕ → Walk
+walkedOn test before nodes = told (first test nodes) (before + upTo test nodes)
+
+pub none-before : (test : ℕ → Bool) (nodes : List ℕ) → walkedOn test 0 nodes ≡ walked test nodes
+unfolding walkedOn walked
+none-before test nodes = ap (told (first test nodes)) (none (upTo test nodes))
+  where
+    none : (k : ℕ) → 0 + k ≡ k
+    none k = omega arith
+
 -- what is left of a walk, from place i on
-unfoldable pub walkedFrom : (ℕ → Bool) → List ℕ → ℕ → Walk
-walkedFrom test nodes i = told (first test (drop i nodes)) (i + upTo test (drop i nodes))
+abbrev pub walkedFrom : (ℕ → Bool) → List ℕ → ℕ → Walk
+walkedFrom test nodes i = walkedOn test i (drop i nodes)
 
 module _ (test : ℕ → Bool) (nodes : List ℕ) where
-  pub walk-start : walkedFrom test nodes 0 ≡ walked test nodes
-  unfolding walked walkedFrom
-  walk-start = ap (told (first test nodes)) (none (upTo test nodes))
-    where
-      none : (n : ℕ) → 0 + n ≡ n
-      none n = omega arith
-
   module _ (i : ℕ) where
     rest : List ℕ
     rest = drop (suc i) nodes
 
     one-more : i < length nodes →
         walkedFrom test nodes i ≡ (let x = getD nodes i 0 in told (if test x then some x else first test rest) (i + suc (if test x then 0 else upTo test rest)))
-    unfolding walkedFrom rest
+    unfolding walkedOn rest
     one-more h = rw (drop-cons nodes i 0 h) refl
 
     pub walk-more : {w : Walk} {t : Bool} → walkedFrom test nodes i ≡ w → i < length nodes → t ≡ test (getD nodes i 0) → t ≡ false → walkedFrom test nodes (i + 1) ≡ w
-    unfolding walkedFrom rest
+    unfolding walkedOn rest
     walk-more e h d f =
         let s : walkedFrom test nodes i ≡ told (first test rest) (i + suc (upTo test rest)) = rw (sym d ∙ f) at (one-more h) in
         let n : i + 1 ≡ suc i = omega arith in
@@ -60,5 +64,5 @@ module _ (test : ℕ → Bool) (nodes : List ℕ) where
     walk-found e h d f = sym (rw (sym d ∙ f) at (one-more h)) ∙ e
 
     pub walk-end : {w : Walk} → walkedFrom test nodes i ≡ w → length nodes ≤ i → Nobody i ≡ w
-    unfolding walkedFrom
+    unfolding walkedOn
     walk-end e h = let n : i + 0 ≡ i = omega arith in ap Nobody (sym n) ∙ (rw (drop-of-length-le nodes h) at e)

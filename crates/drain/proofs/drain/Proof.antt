@@ -6,8 +6,8 @@ use lib.ListN.{length}
 use Rattle.condition.specs.Measures.{nowAt}
 use Rattle.nodes.specs.Ranks.{rank}
 use Rattle.nodes.specs.Sorted.{sorted}
-use Rattle.walk.specs.Walks.{nodeTrue}
-use Rattle.drain.specs.Drained.{nodeTag, while, walkedOn, Left, left-start, left-ends, left-fails, left-finds, left-passes}
+use Rattle.walk.specs.Walks.{nodeTrue, walkedOn}
+use Rattle.drain.specs.Drained.{nodeTag, while, Left, left-start, left-ends, left-fails, left-finds, left-passes}
 use Rattle.drain.proofs.drain.Statement.{statement}
 use Rattle.drain.proofs.drain.Tie as tie
 

@@ -4,11 +4,11 @@ use Prim.Native.Nat.{_-_}
 use lib.ListN.{length}
 use borrow.Author.Needs.{needs}
 use Rattle.condition.specs.Measures.{nowAt}
-use Rattle.walk.specs.Walks.{nodeTrue, walked, walkedFrom, walk-start, walk-more, walk-found, walk-end}
+use Rattle.walk.specs.Walks.{nodeTrue, walked, walkedFrom, none-before, walk-more, walk-found, walk-end}
 use Rattle.walk.proofs.evaluate.Statement.{statement}
 use Rattle.walk.proofs.evaluate.Tie as tie
 
-ruleset laws = (needs, walk-start, walk-more, walk-found, walk-end)
+ruleset laws = (needs, none-before, walk-more, walk-found, walk-end)
 
 abbrev Inv-loop : tie.InvT-loop
 Inv-loop nodes coefficients values atoms measure operator key i₀ i =
