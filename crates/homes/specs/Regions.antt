@@ -7,7 +7,7 @@ use lib.ListN.{getD, length, take, drop, length-append, length-drop, List·getD-
 use lib.Seq.{length-take-le, take-at, drop-at, getD-take, getD-drop, getD-append-add, ext-getD}
 use Rattle.nodes.specs.Counts.{byLt}
 
--- the places of heap g
+-- the places of home g
 abbrev pub region : List ℕ → ℕ → List ℕ
 region l g = take 128 (drop (g * 128) l)
 
@@ -41,12 +41,12 @@ module _ (l p : List ℕ) (a k : ℕ) (fits : a + k ≤ length l) (same : length
       ∙ getD-drop a l (k + d) 0
       ∙ ap (λ (u : ℕ). getD l u 0) i″
 
--- heap g put back: it is what was put, and every other is what it was
-module _ (l p : List ℕ) (g : ℕ) (fits : 4096 ≤ length l) (one : g < 32) (same : length p ≡ 128) where
+-- home g put back: it is what was put, and every other is what it was
+module _ (l p : List ℕ) (g : ℕ) (fits : length l ≡ 4352) (one : g < 34) (same : length p ≡ 128) where
   pub region-here : region (putBack l (g * 128) 128 p) g ≡ p
   region-here = back-here l p (g * 128) 128 (omega arith) same
 
-  pub region-other : (h : ℕ) → h < 32 → (h ≡ g → ⊥) → region (putBack l (g * 128) 128 p) h ≡ region l h
+  pub region-other : (h : ℕ) → h < 34 → (h ≡ g → ⊥) → region (putBack l (g * 128) 128 p) h ≡ region l h
   region-other h q d =
       let m = putBack l (g * 128) 128 p in
       let long : length m ≡ length l = back-long l p (g * 128) 128 (omega arith) same in

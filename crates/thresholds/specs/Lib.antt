@@ -1,3 +1,0 @@
--- Thirty-two heaps in one lent slice: the places of each, and what putting a node into one, or taking it out, leaves of the others.
-pub mod Regions
-pub mod Moves
