@@ -1,2 +1,5 @@
 -- The search: stretches of nodes in the order of ranks.
 pub mod Rising
+pub mod Stretches
+pub mod Contents
+pub mod Pairs
