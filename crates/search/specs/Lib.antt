@@ -3,3 +3,4 @@ pub mod Rising
 pub mod Stretches
 pub mod Contents
 pub mod Pairs
+pub mod Answers

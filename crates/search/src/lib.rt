@@ -1,1 +1,5 @@
 // The search of the index.
+pub enum Answer {
+    Calls(usize, usize),
+    Nobody(usize),
+}
