@@ -1,6 +1,9 @@
--- The search: stretches of nodes in the order of ranks.
+-- The search: walks over one list after another, lists in rising order, the stretches of a search, and that it is the rules' search.
 pub mod Rising
 pub mod Stretches
+pub mod Bands
 pub mod Contents
+pub mod Runs
+pub mod Lookups
 pub mod Pairs
 pub mod Answers

@@ -1,24 +1,22 @@
--- A search walks the nodes in rising order of rank, one stretch after the other: the nodes whose first words are from one bound to the next. What a
--- stretch finds is found; if it finds nobody, what is left begins at the next bound, with those evaluated counted.
+-- A walk over one list after another: what the first finds is found; if it finds nobody, the walk goes on with the next, those evaluated counted.
 use mathlib.Core.Path.{_≡_, refl, sym, ap, _∙_}
-use mathlib.Core.Logic.{_⊎_, inl, inr}
 use mathlib.Core.Bool.{Bool, true, false}
 use mathlib.Core.List.{List, [], _∷_, _++_}
 use mathlib.Core.Option.{Option, none, some}
-use Prim.Native.Nat.{ℕ, zero, suc, _+_, _<_, _≤_}
+use Prim.Native.Nat.{ℕ, zero, suc, _+_, _-_, _<_, _≤_}
 use native.Mathlib.Omega.{arith}
-use lib.Dec.{leb}
-use borrow.Author.Tests.{leb-true, leb-false, le-leb, lt-leb}
-use Rattle.rules.specs.Base.{if_then_else_, those, first}
-use Rattle.rules.specs.Laws.In.{In, byBool, true-not-false, in-those, those-in, in-left, in-right, in-append, none-some}
+use native.Mathlib.Nat.{sub-zero}
+use lib.ListN.{length}
+use mir.Syntax.{w64}
+use mir.Val.{Fits}
+use Rattle.rules.specs.Base.{if_then_else_, first, gather}
+use Rattle.rules.specs.Laws.In.{byBool, none-some}
 use Rattle.rules.specs.Laws.InRankOrder.{upTo}
-use Rattle.nodes.specs.Counts.{byLt}
+use Rattle.condition.specs.Closed.{from}
 use Rattle.walk.specs.declared.Walk.{Walk}
 use Rattle.walk.specs.declared.Walk.the-variants.{Found, Nobody}
-use Rattle.walk.specs.Walks.{told, walked, walkedOn}
-use Rattle.search.specs.Rising.{Rising, rising-same, rising-append, rising-those}
+use Rattle.walk.specs.Walks.{told, walked, walkedOn, none-before}
 
--- ---- a walk over one list after another
 found-not-nobody : {x k n : ℕ} → Found x k ≡ Nobody n → ⊥
 found-not-nobody e = let z : _≡_ {A = ℕ} 0 1 = cc in omega arith
 
@@ -59,45 +57,110 @@ module _ (test : ℕ → Bool) where
       let n : c + k + upTo test m ≡ c + upTo test (l ++ m) = omega (arith, i .1, r .1) in
       ap (told (first test m)) n ∙ ap (λ o. told o (c + upTo test (l ++ m))) (sym (r .0))
 
--- ---- stretches
-module _ (rank word : ℕ → ℕ) (all : List ℕ) where
-  -- those whose word is not below a bound
-  unfoldable pub from : ℕ → List ℕ
-  from b = those (λ x. leb b (word x)) all
 
-  -- l is those whose word is from b on and below d, in rising order
-  pub record Stretch (b d : ℕ) (l : List ℕ) : Type 0 where
-    pub rising : Rising rank l
-    pub only : (x : ℕ) → In x l → In x all × (b ≤ word x) × (word x < d)
-    pub every : (x : ℕ) → In x all → b ≤ word x → word x < d → In x l
+-- how many a walk evaluated
+abbrev pub countOf : Walk → ℕ
+countOf (Found x k) = k
+countOf (Nobody k) = k
 
-  module _ (rises : Rising rank all) (wordly : (x y : ℕ) → word x < word y → rank x < rank y) (b d : ℕ) (l : List ℕ) (s : Stretch b d l) (below : b ≤ d) where
-    in-from : (z c : ℕ) → In z all → c ≤ word z → In z (from c)
-    unfolding from
-    in-from z c h p = those-in (λ x. leb c (word x)) all h (le-leb c (word z) p)
+-- a walk with so many evaluated before
+abbrev pub after : ℕ → Walk → Walk
+after before (Found x k) = Found x (before + k)
+after before (Nobody k) = Nobody (before + k)
 
-    from-in : (z c : ℕ) → In z (from c) → In z all × (c ≤ word z)
-    unfolding from
-    from-in z c h = let r = in-those (λ x. leb c (word x)) all h in (r .0, leb-true c (word z) (r .1))
+pub count-most : (test : ℕ → Bool) (l : List ℕ) (most : ℕ) {u : Walk} → u ≡ walked test l → length l ≤ most → countOf u ≤ most
+unfolding walked
+count-most test l most {u} e h = rw e (go (first test l) (upTo test l) (omega (arith, upTo-most l)))
+  where
+    upTo-most : (l : List ℕ) → upTo test l ≤ length l
+    upTo-most [] = omega arith
+    upTo-most (x ∷ l) = byBool (test x) (λ t. rw t (omega arith)) (λ t. rw t (omega (arith, upTo-most l)))
 
-    rising-from : (c : ℕ) → Rising rank (from c)
-    unfolding from
-    rising-from c = rising-those rank (λ x. leb c (word x)) all rises
+    go : (o : Option ℕ) (n : ℕ) → n ≤ most → countOf (told o n) ≤ most
+    go (some x) n h = h
+    go none n h = h
 
-    pub stretch-from : from b ≡ l ++ from d
-    stretch-from = rising-same rank (from b) (l ++ from d) (rising-from b)
-        (rising-append rank l (from d) (s .rising) (rising-from d) (λ x y p q. wordly x y (omega (arith, s .only x p .2, from-in y d q .1))))
-        (λ z h. let r = from-in z b h in byLt (word z) d (λ p. in-left z l (from d) (s .every z (r .0) (r .1) p)) (λ p. in-right z l (from d) (in-from z d (r .0) p)))
-        (λ z h. elim (in-append z l (from d) h) [ inl p ↦ (let r = s .only z p in in-from z b (r .0) (r .1)) | inr p ↦ (let r = from-in z d p in in-from z b (r .0) (omega (arith, r .1))) ])
+-- ---- the answers of `counted`
+pub found-fits : {u : Walk} {x k : ℕ} (before : ℕ) → u ≡ Found x k → before ≤ 8192 → countOf u ≤ 128 → Fits w64 (before + k)
+found-fits {u} {x} {k} before e p h = let m : k ≤ 128 = rw e at h in record { fits = omega arith }
 
-    module _ (test : ℕ → Bool) (c : ℕ) {w r : Walk} (e : walkedOn test c (from b) ≡ w) (is : r ≡ walked test l) where
-      pub stretch-finds : (x k : ℕ) → r ≡ Found x k → Found x (c + k) ≡ w
-      stretch-finds x k q = walk-finds test l (from d) c x k (sym q ∙ is) ∙ ap (walkedOn test c) (sym stretch-from) ∙ e
+pub nobody-fits : {u : Walk} {k : ℕ} (before : ℕ) → u ≡ Nobody k → before ≤ 8192 → countOf u ≤ 128 → Fits w64 (before + k)
+nobody-fits {u} {k} before e p h = let m : k ≤ 128 = rw e at h in record { fits = omega arith }
 
-      pub stretch-passes : (k : ℕ) → r ≡ Nobody k → walkedOn test (c + k) (from d) ≡ w
-      stretch-passes k q = walk-goes-on test l (from d) c k (sym q ∙ is) ∙ ap (walkedOn test c) (sym stretch-from) ∙ e
+pub after-found : {u : Walk} {x k : ℕ} (before : ℕ) → u ≡ Found x k → Found x (before + k) ≡ after before u
+after-found before e = ap (after before) (sym e)
 
--- how many a stretch evaluates
-pub upTo-most : (test : ℕ → Bool) (l : List ℕ) → upTo test l ≤ lib.ListN.length l
-upTo-most test [] = omega arith
-upTo-most test (x ∷ l) = byBool (test x) (λ t. rw t (omega arith)) (λ t. rw t (omega (arith, upTo-most test l)))
+pub after-nobody : {u : Walk} {k : ℕ} (before : ℕ) → u ≡ Nobody k → Nobody (before + k) ≡ after before u
+after-nobody before e = ap (after before) (sym e)
+
+-- so many lists one after the other, from number i on
+abbrev pub lists : (ℕ → List ℕ) → ℕ → ℕ → List ℕ
+lists f n i = gather f (from (λ j. j) n i)
+
+-- ---- as the code goes along: f i is walked, and r is what it tells after those before
+module _ (test : ℕ → Bool) (f : ℕ → List ℕ) (n : ℕ) where
+  abbrev pub listsLeft : ℕ → ℕ → Walk
+  listsLeft before i = walkedOn test before (lists f (n - i) i)
+
+  pub lists-start : listsLeft 0 0 ≡ walked test (lists f n 0)
+  lists-start = rw (sub-zero n) (none-before test (lists f n 0))
+
+  module _ (i before : ℕ) {w : Walk} (e : listsLeft before i ≡ w) where
+    pub lists-end : n ≤ i → Nobody before ≡ w
+    unfolding walkedOn
+    lists-end h =
+        let z : n - i ≡ 0 = omega arith in
+        let b : before + 0 ≡ before = omega arith in
+        ap Nobody (sym b) ∙ (rw z at e)
+
+    module _ (h : i < n) {r u : Walk} (is : u ≡ walked test (f i)) (told-after : r ≡ after before u) where
+      step : n - i ≡ suc (n - (i + 1))
+      step = omega arith
+
+      next : suc i ≡ i + 1
+      next = omega arith
+
+      split : walkedOn test before (f i ++ lists f (n - (i + 1)) (i + 1)) ≡ w
+      split = rw (step, next) at e
+
+      pub lists-find : (x k : ℕ) → r ≡ Found x k → r ≡ w
+      lists-find x k q = go u is told-after
+        where
+          go : (u : Walk) → u ≡ walked test (f i) → r ≡ after before u → r ≡ w
+          go (Found y m) d t = t ∙ walk-finds test (f i) (lists f (n - (i + 1)) (i + 1)) before y m d ∙ split
+          go (Nobody m) d t = absurd (found-not-nobody (sym q ∙ t))
+
+      pub lists-pass : (k : ℕ) → r ≡ Nobody k → listsLeft k (i + 1) ≡ w
+      lists-pass k q = go u is told-after
+        where
+          go : (u : Walk) → u ≡ walked test (f i) → r ≡ after before u → listsLeft k (i + 1) ≡ w
+          go (Found y m) d t = absurd (found-not-nobody (sym t ∙ q))
+          go (Nobody m) d t =
+              let c : k ≡ before + m = cc in
+              ap (λ b. walkedOn test b (lists f (n - (i + 1)) (i + 1))) c ∙ walk-goes-on test (f i) (lists f (n - (i + 1)) (i + 1)) before m d ∙ split
+
+      pub lists-most : (k most : ℕ) → r ≡ Nobody k → length (f i) ≤ most → k ≤ before + most
+      lists-most k most q l = go u is told-after
+        where
+          go : (u : Walk) → u ≡ walked test (f i) → r ≡ after before u → k ≤ before + most
+          go (Found y m) d t = absurd (found-not-nobody (sym t ∙ q))
+          go (Nobody m) d t = let c : k ≡ before + m = cc in omega (arith, count-most test (f i) most d l)
+
+-- ---- two lists, one after the other
+module _ (test : ℕ → Bool) (l m : List ℕ) {r : Walk} (first-is : r ≡ walked test l) where
+  pub then-found : (x k : ℕ) → r ≡ Found x k → r ≡ walked test (l ++ m)
+  then-found x k q = q ∙ ap (Found x) zero-more ∙ walk-finds test l m 0 x k (sym q ∙ first-is) ∙ none-before test (l ++ m)
+    where
+      zero-more : k ≡ 0 + k
+      zero-more = omega arith
+
+  pub then-next : {u : Walk} (k : ℕ) → r ≡ Nobody k → u ≡ walked test m → after k u ≡ walked test (l ++ m)
+  unfolding walked walkedOn
+  then-next {u} k q d = ap (after k) d ∙ both (first test m) (upTo test m) ∙ walk-goes-on test l m 0 k (sym q ∙ first-is) ∙ none-before test (l ++ m)
+    where
+      zero-more : 0 + k ≡ k
+      zero-more = omega arith
+
+      both : (o : Option ℕ) (n : ℕ) → after k (told o n) ≡ told o (0 + k + n)
+      both (some x) n = ap (λ b. Found x (b + n)) (sym zero-more)
+      both none n = ap (λ b. Nobody (b + n)) (sym zero-more)

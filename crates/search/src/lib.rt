@@ -1,5 +1,76 @@
-// The search of the index.
+// "Which job a search calls": the alternatives of the index whose tag holds, in the order of their ranks, one after the other up to the first true
+// one. Equality tags are looked up by each measure's value; of the thresholds each heap is walked while tags hold; then come those without a tag.
+// The search only reads the room. It tells who is called, and how many alternatives it evaluated.
+//
+// A home has 128 places (crate homes): heaps 0 to 31, the row of equality tags from place 4096 on, the row without tags from 4224 on.
+ghost use mathlib.Core.Path.{_≡_};
+ghost use mathlib.Core.List.{_++_};
+ghost use Prim.Native.Nat.{ℕ, _+_, _*_, _<_, _≤_};
+ghost use lib.IntN.{pos};
+ghost use lib.ListN.{getD, length};
+ghost use Rattle.condition.specs.Measures.{Ranges, nowAt};
+ghost use Rattle.nodes.specs.Ranks.{rank};
+ghost use Rattle.nodes.specs.Order.{Ordered};
+ghost use Rattle.nodes.specs.Holes.{value};
+ghost use Rattle.nodes.specs.Sorted.{sorted, Apart};
+ghost use Rattle.heap.specs.Places.{above};
+ghost use Rattle.rows.specs.Places.{previous};
+ghost use Rattle.rows.specs.Halves.{wordOf};
+ghost use Rattle.homes.specs.Regions.{region};
+ghost use Rattle.filing.specs.Words.{equalityWord};
+ghost use Rattle.walk.specs.Walks.{nodeTrue, walked};
+ghost use Rattle.drain.specs.Drained.{nodeTag, while};
+ghost use Rattle.search.specs.Stretches.{after, countOf, lists};
+ghost use Rattle.search.specs.Runs.{run};
+ghost use Rattle.search.specs.Answers.{asAnswer};
+use condition::measure::measure_of;
+use drain::evaluate_heap;
+use filing::equality_word;
+use rows::first_at_least;
+use walk::Walk;
+use walk::evaluate;
+
+// The job that is called, and the number of alternatives evaluated; or that number alone.
 pub enum Answer {
     Calls(usize, usize),
     Nobody(usize),
+}
+
+// A walk with so many evaluated before it.
+fn counted(before: usize, walk: Walk) -> Walk
+    requires { ⌜ before ≤ 8192 ⌝ ∗ ⌜ countOf walk ≤ 128 ⌝ }
+    ensures { λ r. ⌜ r ≡ after before walk ⌝ }
+{
+    match walk {
+        Walk::Found(node, count) => Walk::Found(node, before + count),
+        Walk::Nobody(count) => Walk::Nobody(before + count),
+    }
+}
+
+// The alternatives whose equality tag is of one measure and holds: those of the row with the word of the measure's value.
+fn search_measure(
+    row: &[u8],
+    high: &[u64; 128],
+    n: usize,
+    of: usize,
+    coefficients: &[i64; 128],
+    values: &[i64; 8],
+    atoms: &[u8; 128],
+    measure: &[u8; 512],
+    operator: &[u8; 512],
+    key: &[i64; 512],
+) -> Walk
+    requires { ⌜ n ≤ length (now row) ⌝ ∗ ⌜ n ≤ 128 ⌝ ∗ ⌜ of < 16 ⌝ ∗ ⌜ Ranges (now coefficients) (now values) (now key) ⌝ }
+    requires { ⌜ Ordered previous (value (wordOf (now high)) (now row)) n ⌝ }
+    ensures { λ r. ⌜ r ≡ walked (nodeTrue (nowAt (now (coefficients .entry)) (now (values .entry))) (now (atoms .entry)) (now (measure .entry)) (now (operator .entry)) (now (key .entry)))
+        (run (now (high .entry)) (now (row .entry)) n (equalityWord of (getD (nowAt (now (coefficients .entry)) (now (values .entry))) of (pos 0)))) ⌝ }
+{
+    if n == 0 {
+        return Walk::Nobody(0);
+    }
+    let value = measure_of(coefficients, values, of);
+    let word = equality_word(of, value);
+    let first = first_at_least(row, high, n, word);
+    let end = first_at_least(row, high, n, word + 1);
+    evaluate(&row[first..end], coefficients, values, atoms, measure, operator, key)
 }
