@@ -3,6 +3,7 @@ use mathlib.Core.Path.{_≡_, sym, ap, _∙_, subst}
 use mathlib.Core.Bool.{Bool}
 use mathlib.Core.List.{List}
 use Prim.Native.Nat.{ℕ, _+_, _-_, _≤_}
+use native.Mathlib.Omega.{arith}
 use lib.Dec.{lit<}
 use lib.IntN.{ℤ, pos}
 use lib.ListN.{getD, length, take, drop}
@@ -19,7 +20,14 @@ use Rattle.rows.specs.Halves.{wordOf, Reaches}
 use Rattle.walk.specs.declared.Walk.{Walk}
 use Rattle.walk.specs.declared.Walk.the-variants.{Nobody}
 use Rattle.walk.specs.Walks.{walked}
-use Rattle.search.specs.Runs.{run, run-none, run-part}
+use Rattle.search.specs.Runs.{run, run-none, run-part, run-most}
+
+-- the nodes whose equality tag is of a measure and holds
+abbrev pub equalities : List ℤ → List ℕ → List ℕ → ℕ → ℕ → List ℕ
+equalities now high row n m = run high row n (equalityWord m (getD now m (pos 0)))
+
+pub equalities-most : (now : List ℤ) (high row : List ℕ) (n m most : ℕ) → n ≤ most → length (equalities now high row n m) ≤ most
+equalities-most now high row n m most h = omega (arith, run-most high row n (equalityWord m (getD now m (pos 0))))
 
 pub nothing-walked : (test : ℕ → Bool) (high row : List ℕ) (n w : ℕ) → n ≡ 0 → Nobody 0 ≡ walked test (run high row n w)
 unfolding walked

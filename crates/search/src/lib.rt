@@ -6,7 +6,6 @@
 ghost use mathlib.Core.Path.{_≡_};
 ghost use mathlib.Core.List.{_++_};
 ghost use Prim.Native.Nat.{ℕ, _+_, _*_, _<_, _≤_};
-ghost use lib.IntN.{pos};
 ghost use lib.ListN.{getD, length};
 ghost use Rattle.condition.specs.Measures.{Ranges, nowAt};
 ghost use Rattle.nodes.specs.Ranks.{rank};
@@ -17,11 +16,10 @@ ghost use Rattle.heap.specs.Places.{above};
 ghost use Rattle.rows.specs.Places.{previous};
 ghost use Rattle.rows.specs.Halves.{wordOf};
 ghost use Rattle.homes.specs.Regions.{region};
-ghost use Rattle.filing.specs.Words.{equalityWord};
 ghost use Rattle.walk.specs.Walks.{nodeTrue, walked};
 ghost use Rattle.drain.specs.Drained.{nodeTag, while};
 ghost use Rattle.search.specs.Stretches.{after, countOf, lists};
-ghost use Rattle.search.specs.Runs.{run};
+ghost use Rattle.search.specs.Lookups.{equalities};
 ghost use Rattle.search.specs.Answers.{asAnswer};
 use condition::measure::measure_of;
 use drain::evaluate_heap;
@@ -63,7 +61,7 @@ fn search_measure(
     requires { ⌜ n ≤ length (now row) ⌝ ∗ ⌜ n ≤ 128 ⌝ ∗ ⌜ of < 16 ⌝ ∗ ⌜ Ranges (now coefficients) (now values) (now key) ⌝ }
     requires { ⌜ Ordered previous (value (wordOf (now high)) (now row)) n ⌝ }
     ensures { λ r. ⌜ r ≡ walked (nodeTrue (nowAt (now (coefficients .entry)) (now (values .entry))) (now (atoms .entry)) (now (measure .entry)) (now (operator .entry)) (now (key .entry)))
-        (run (now (high .entry)) (now (row .entry)) n (equalityWord of (getD (nowAt (now (coefficients .entry)) (now (values .entry))) of (pos 0)))) ⌝ }
+        (equalities (nowAt (now (coefficients .entry)) (now (values .entry))) (now (high .entry)) (now (row .entry)) n of) ⌝ }
 {
     if n == 0 {
         return Walk::Nobody(0);
@@ -73,4 +71,47 @@ fn search_measure(
     let first = first_at_least(row, high, n, word);
     let end = first_at_least(row, high, n, word + 1);
     evaluate(&row[first..end], coefficients, values, atoms, measure, operator, key)
+}
+
+// Equality tags: the measures in their order.
+fn search_equalities(
+    row: &[u8],
+    high: &[u64; 128],
+    n: usize,
+    measures: usize,
+    coefficients: &[i64; 128],
+    values: &[i64; 8],
+    atoms: &[u8; 128],
+    measure: &[u8; 512],
+    operator: &[u8; 512],
+    key: &[i64; 512],
+) -> Walk
+    requires { ⌜ n ≤ length (now row) ⌝ ∗ ⌜ n ≤ 128 ⌝ ∗ ⌜ measures ≤ 16 ⌝ ∗ ⌜ Ranges (now coefficients) (now values) (now key) ⌝ }
+    requires { ⌜ Ordered previous (value (wordOf (now high)) (now row)) n ⌝ }
+    ensures { λ r. ⌜ r ≡ walked (nodeTrue (nowAt (now (coefficients .entry)) (now (values .entry))) (now (atoms .entry)) (now (measure .entry)) (now (operator .entry)) (now (key .entry)))
+        (lists (equalities (nowAt (now (coefficients .entry)) (now (values .entry))) (now (high .entry)) (now (row .entry)) n) measures 0) ⌝ }
+{
+    let mut evaluated = 0;
+    let mut i = 0;
+    while i < measures {
+        let one = search_measure(
+            row,
+            high,
+            n,
+            i,
+            coefficients,
+            values,
+            atoms,
+            measure,
+            operator,
+            key,
+        );
+        let walk = counted(evaluated, one);
+        let Walk::Nobody(count) = walk else {
+            return walk;
+        };
+        evaluated = count;
+        i += 1;
+    }
+    Walk::Nobody(evaluated)
 }
