@@ -5,5 +5,6 @@ pub mod Bands
 pub mod Contents
 pub mod Runs
 pub mod Lookups
+pub mod Heaps
 pub mod Pairs
 pub mod Answers
