@@ -1,3 +1,7 @@
 -- The index: what it holds between events, and what joining and parting change.
 pub mod Filed
+pub mod Nodes
+pub mod Loops
+pub mod Across
+pub mod Keeps
 pub mod Index

@@ -5,7 +5,8 @@ use mathlib.Core.List.{List, [], _∷_}
 use Prim.Native.Nat.{ℕ, zero, suc, _+_, _*_, _-_, _<_, _≤_}
 use native.Mathlib.Omega.{arith}
 use lib.Dec.{ltb}
-use lib.ListN.{getD, length, take, drop}
+use lib.ListN.{getD, length, take, drop, length-drop}
+use lib.Seq.{length-take-le}
 use Rattle.rules.specs.Laws.In.{byBool}
 use Rattle.nodes.specs.Order.{Ordered}
 use Rattle.nodes.specs.Holes.{value}
@@ -27,6 +28,9 @@ pub record Ready (rank : ℕ → ℕ) (places lengths : List ℕ) (g : ℕ) : Ty
 
 -- k is the number of a heap's places
 module _ (rank : ℕ → ℕ) (places lengths : List ℕ) (g k : ℕ) (size : k ≡ 128) where
+  pub part-fits : Ready rank places lengths g → length places ≡ 4352 → g < 32 → getD lengths g 0 ≤ length (take k (drop (g * 128) places))
+  part-fits r e h = rw size (omega (arith, r .few, length-take-le 128 (drop (g * 128) places) (omega (arith, length-drop (g * 128) places))))
+
   pub part-order : Ready rank places lengths g → Ordered above (value rank (take k (drop (g * 128) places))) (getD lengths g 0)
   part-order r = rw size (r .order)
 

@@ -1,0 +1,2 @@
+// The index: jobs join it and part from it.
+pub mod alternatives;
