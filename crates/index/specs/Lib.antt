@@ -4,4 +4,9 @@ pub mod Nodes
 pub mod Loops
 pub mod Across
 pub mod Keeps
+pub mod Leads
 pub mod Index
+pub mod Changes
+pub mod Asked
+pub mod Joining
+pub mod Parting

@@ -24,6 +24,14 @@ module _ (rank word : ℕ → ℕ) (all : List ℕ) where
   pub stretch-none : (b d : ℕ) → ((x : ℕ) → In x all → b ≤ word x → word x < d → ⊥) → Stretch b d []
   stretch-none b d f = record { rising = tt; only = λ x h. absurd h; every = f }
 
+  -- a stretch reaches as far as nothing more comes
+  pub stretch-reaches : (b c d : ℕ) (l : List ℕ) → c ≤ d → Stretch b c l → ((x : ℕ) → In x all → c ≤ word x → word x < d → ⊥) → Stretch b d l
+  stretch-reaches b c d l p s f = record {
+    rising = s .rising;
+    only = λ x h. let r = s .only x h in (r .0, r .1, omega (arith, r .2));
+    every = λ x h g k. byLt (word x) c (λ z. s .every x h g z) (λ z. absurd (f x h z k));
+  }
+
   pub stretch-whole : (d : ℕ) (l : List ℕ) → Rising rank all → Stretch 0 d l → ((x : ℕ) → In x all → word x < d) → l ≡ all
   stretch-whole d l r s f = rising-same rank l all (s .rising) r (λ x h. s .only x h .0) (λ x h. s .every x h (omega arith) (f x h))
 

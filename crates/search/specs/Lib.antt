@@ -8,3 +8,8 @@ pub mod Lookups
 pub mod Heaps
 pub mod Pairs
 pub mod Answers
+pub mod Live
+pub mod Placed
+pub mod Stretched
+pub mod Whole
+pub mod Rules
