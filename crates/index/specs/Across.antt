@@ -1,5 +1,5 @@
 -- Sums over the first numbers, and by them how many nodes a home may have: as many as there are numbers that it may hold, if it holds each once.
-use mathlib.Core.Path.{_≡_, refl, sym, ap, _∙_}
+use mathlib.Core.Path.{_≡_, refl}
 use mathlib.Core.List.{List}
 use Prim.Native.Nat.{ℕ, zero, suc, _+_, _*_, _/_, _<_, _≤_}
 use native.Mathlib.Omega.{arith}
@@ -7,9 +7,14 @@ use lib.ListN.{getD}
 use Rattle.nodes.specs.Counts.{is, is-self, is-not, count, count-at, byEq}
 
 -- f at every number below k
-unfoldable across : (ℕ → ℕ) → ℕ → ℕ
+unfoldable pub across : (ℕ → ℕ) → ℕ → ℕ
 across f zero = 0
 across f (suc k) = across f k + f k
+
+pub across-same : (f g : ℕ → ℕ) (k : ℕ) → ((z : ℕ) → f z ≡ g z) → across f k ≡ across g k
+unfolding across
+across-same f g zero e = refl
+across-same f g (suc k) e = omega (arith, across-same f g k e, e k)
 
 across-add : (f g : ℕ → ℕ) (k : ℕ) → across (λ z. f z + g z) k ≡ across f k + across g k
 unfolding across
@@ -47,7 +52,7 @@ across-count l (suc n) k h = omega (arith, across-add (count l n) (is (getD l n 
 
 -- ---- n places with numbers below 128, no number twice
 module _ (l : List ℕ) (n : ℕ) (below : (z : ℕ) → 0 < count l n z → z < 128) (once : (z : ℕ) → count l n z ≤ 1) where
-  placed : across (count l n) 128 ≡ n
+  pub placed : across (count l n) 128 ≡ n
   placed = across-count l n 128 (λ j p. below (getD l j 0) (count-at l n j p))
 
   pub at-most-all : n ≤ 128

@@ -13,7 +13,7 @@ use Rattle.condition.specs.Closing.{ClosedSlots}
 use Rattle.nodes.specs.Counts.{byEq}
 use Rattle.homes.specs.Moves.{holds}
 use Rattle.index.specs.Filed.{homeIn, countIn}
-use Rattle.index.specs.Nodes.{mine}
+use Rattle.index.specs.Mine.{mine}
 use Rattle.index.specs.Leads.{FiledOf, leads-room, leads-most, leads-held}
 
 abbrev pub SmallMeasures : ClosedSlots → Type 0

@@ -1,21 +1,30 @@
 -- Nodes that were put into their homes are among those filed, and nodes that were taken out are not; and a home has room for every job's nodes
 -- but its own: it holds each node once.
-use mathlib.Core.Path.{_≡_, refl, sym, ap, _∙_}
+use mathlib.Core.Path.{_≡_, refl, ap, _∙_}
 use mathlib.Core.Bool.{Bool, true, false, _&&_}
 use mathlib.Core.List.{List}
-use Prim.Native.Nat.{ℕ, _+_, _*_, _/_, _%_, _<_, _≤_}
+use Prim.Native.Nat.{ℕ, _/_, _<_, _≤_}
 use native.Mathlib.Omega.{arith}
-use lib.Dec.{eqb, ltb}
-use lib.ListN.{getD, length}
+use lib.Dec.{eqb}
+use lib.ListN.{getD}
 use borrow.Author.Tests.{eq-eqb}
 use Rattle.rules.specs.Base.{if_then_else_}
-use Rattle.rules.specs.Laws.In.{byBool, true-not-false}
+use Rattle.rules.specs.Laws.In.{byBool}
 use Rattle.nodes.specs.Counts.{bit}
 use Rattle.homes.specs.Regions.{region}
 use Rattle.homes.specs.Moves.{holds}
 use Rattle.index.specs.Filed.{Filed}
 use Rattle.index.specs.Nodes.{Added, Taken}
-use Rattle.index.specs.Across.{at-most-all, at-most-rest}
+use Rattle.index.specs.Across.{across, placed, at-most-all, at-most-rest}
+
+bit-most : (b c : Bool) → bit (b && c) ≤ 1
+bit-most true true = omega arith
+bit-most true false = omega arith
+bit-most false c = omega arith
+
+pub bit-some : (b c : Bool) → 0 < bit (b && c) → b ≡ true
+bit-some true c h = refl
+bit-some false c h = absurd (omega arith)
 
 module _ (rank home : ℕ → ℕ) (node : ℕ → Bool) (l n : List ℕ) (f : Filed rank home node l n) where
   pub filed-same : (other : ℕ → Bool) → ((x : ℕ) → other x ≡ node x) → Filed rank home other l n
@@ -55,21 +64,15 @@ module _ (rank home : ℕ → ℕ) (node : ℕ → Bool) (l n : List ℕ) (f : F
   filed-held x p t = rw (f .has (home x) x p, t, eq-eqb (home x) (home x) refl) (omega arith)
 
   -- ---- how many a home has
-  bit-most : (b c : Bool) → bit (b && c) ≤ 1
-  bit-most true true = omega arith
-  bit-most true false = omega arith
-  bit-most false c = omega arith
-
-  bit-some : (b c : Bool) → 0 < bit (b && c) → b ≡ true
-  bit-some true c h = refl
-  bit-some false c h = absurd (omega arith)
-
   module _ (small : (x : ℕ) → node x ≡ true → x < 128) (h : ℕ) (p : h < 34) where
     below : (z : ℕ) → 0 < holds l n h z → z < 128
     below z q = small z (bit-some (node z) (eqb (home z) h) (omega (arith, f .has h z p)))
 
     once : (z : ℕ) → holds l n h z ≤ 1
     once z = omega (arith, f .has h z p, bit-most (node z) (eqb (home z) h))
+
+    pub filed-placed : across (holds l n h) 128 ≡ getD n h 0
+    filed-placed = placed (region l h) (getD n h 0) below once
 
     pub filed-most : getD n h 0 ≤ 128
     filed-most = at-most-all (region l h) (getD n h 0) below once

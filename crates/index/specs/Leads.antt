@@ -1,9 +1,9 @@
 -- The nodes of the leads. One lead more is its nodes in their homes, one lead less is its nodes out of them; and a home has room for the nodes of
 -- a job that does not lead.
-use mathlib.Core.Path.{_≡_, refl, sym, ap, _∙_}
+use mathlib.Core.Path.{_≡_, refl, ap}
 use mathlib.Core.Bool.{Bool, true, false, _&&_}
 use mathlib.Core.List.{List}
-use Prim.Native.Nat.{ℕ, _+_, _*_, _/_, _%_, _<_, _≤_}
+use Prim.Native.Nat.{ℕ, _/_, _%_, _<_, _≤_}
 use native.Mathlib.Omega.{arith}
 use lib.Dec.{eqb, ltb}
 use lib.ListN.{getD}
@@ -16,8 +16,10 @@ use Rattle.filing.specs.Homes.{home-at-below}
 use Rattle.nodes.specs.Counts.{byEq}
 use Rattle.homes.specs.Moves.{holds}
 use Rattle.index.specs.Filed.{homeIn, countIn, Filed}
-use Rattle.index.specs.Nodes.{mine, mine-is, mine-other, NodesPut, NodesCut}
-use Rattle.index.specs.Keeps.{filed-same, filed-added, filed-taken, filed-held, filed-most, filed-room}
+use Rattle.index.specs.Mine.{mine, mine-is, mine-other}
+use Rattle.index.specs.Nodes.{NodesPut, NodesCut}
+use Rattle.index.specs.Across.{across}
+use Rattle.index.specs.Keeps.{filed-same, filed-added, filed-taken, filed-held, filed-placed, filed-most, filed-room}
 
 -- node x is an alternative of one of the leads
 abbrev pub nodeOf : ClosedSlots → (ℕ → Bool) → ℕ → Bool
@@ -30,8 +32,14 @@ module _ (rank : ℕ → ℕ) (s : ClosedSlots) (lead : ℕ → Bool) (l n : Lis
   pub leads-same : (other : ℕ → Bool) → ((j : ℕ) → other j ≡ lead j) → FiledOf rank s other l n
   leads-same other e = filed-same rank (homeIn s) (nodeOf s lead) l n f (nodeOf s other) (λ x. ap (λ t. t && ltb (x % 4) (countIn s (x / 4))) (e (x / 4)))
 
+  node-below : ((j : ℕ) → lead j ≡ true → j < 32) → (x : ℕ) → nodeOf s lead x ≡ true → x < 128
+  node-below few x t = omega (arith, few (x / 4) (both (lead (x / 4)) (ltb (x % 4) (countIn s (x / 4))) t .0))
+
+  pub leads-placed : ((j : ℕ) → lead j ≡ true → j < 32) → (h : ℕ) → h < 34 → across (holds l n h) 128 ≡ getD n h 0
+  leads-placed few h p = filed-placed rank (homeIn s) (nodeOf s lead) l n f (node-below few) h p
+
   pub leads-most : ((j : ℕ) → lead j ≡ true → j < 32) → (h : ℕ) → h < 34 → getD n h 0 ≤ 128
-  leads-most few h p = filed-most rank (homeIn s) (nodeOf s lead) l n f (λ x t. omega (arith, few (x / 4) (both (lead (x / 4)) (ltb (x % 4) (countIn s (x / 4))) t .0))) h p
+  leads-most few h p = filed-most rank (homeIn s) (nodeOf s lead) l n f (node-below few) h p
 
   module _ (job : ℕ) where
     -- the job does not lead
@@ -41,7 +49,7 @@ module _ (rank : ℕ → ℕ) (s : ClosedSlots) (lead : ℕ → Bool) (l n : Lis
 
       pub leads-room : ((j : ℕ) → lead j ≡ true → j < 32) → job < 32 → (h : ℕ) → h < 34 → getD n h 0 ≤ 124
       leads-room few small h p =
-          filed-room rank (homeIn s) (nodeOf s lead) l n f (λ x t. omega (arith, few (x / 4) (both (lead (x / 4)) (ltb (x % 4) (countIn s (x / 4))) t .0))) h p job small free
+          filed-room rank (homeIn s) (nodeOf s lead) l n f (node-below few) h p job small free
 
       pub leads-more : (m k : List ℕ) → NodesPut rank (homeIn s) job (countIn s job) l n m k → FiledOf rank s (λ j. if eqb j job then true else lead j) m k
       leads-more m k a =

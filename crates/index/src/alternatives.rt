@@ -5,7 +5,8 @@ ghost use Prim.Native.Nat.{ℕ, _<_, _≤_, min};
 ghost use lib.ListN.{getD, length};
 ghost use Rattle.nodes.specs.Ranks.{rank};
 ghost use Rattle.homes.specs.Moves.{holds};
-ghost use Rattle.index.specs.Nodes.{homeOf, mine, NodesPut, NodesCut};
+ghost use Rattle.index.specs.Mine.{mine};
+ghost use Rattle.index.specs.Nodes.{homeOf, NodesPut, NodesCut};
 use condition::truth::count_of;
 use filing::home_of;
 
@@ -38,9 +39,9 @@ pub fn put_nodes(
     let mut i: usize = 0;
     while i < count {
         let node = first + i;
-        let home = home_of(atoms, measure, operator, node);
+        let to = home_of(atoms, measure, operator, node);
         let x = narrow(node);
-        homes::put(places, lengths, high, low, home, x);
+        homes::put(places, lengths, high, low, to, x);
         i += 1;
     }
 }
@@ -68,9 +69,9 @@ pub fn cut_nodes(
     let mut i: usize = 0;
     while i < count {
         let node = first + i;
-        let home = home_of(atoms, measure, operator, node);
+        let from = home_of(atoms, measure, operator, node);
         let x = narrow(node);
-        homes::cut(places, lengths, high, low, home, x);
+        homes::cut(places, lengths, high, low, from, x);
         i += 1;
     }
 }

@@ -13,7 +13,7 @@ first-words : (a b c d : ℕ) → b < 2 ^ 64 → two a b ≤ two c d → d < 2 ^
 unfolding two
 first-words a b c d p h q = omega arith
 
-pub words-ordered : (high low row : List ℕ) (n : ℕ) → ((x : ℕ) → getD low x 0 < 2 ^ 64) →
+pub words-ordered : (high low row : List ℕ) (n : ℕ) → ((j : ℕ) → j < n → getD low (getD row j 0 % 128) 0 < 2 ^ 64) →
     Ordered previous (value (rank high low) row) n → Ordered previous (value (wordOf high) row) n
 unfolding Ordered
-words-ordered high low row n fits o j p q = first-words _ _ _ _ (fits (getD row (previous j) 0 % 128)) (o j p q) (fits (getD row j 0 % 128))
+words-ordered high low row n fits o j p q = first-words _ _ _ _ (fits (previous j) (omega arith)) (o j p q) (fits j q)

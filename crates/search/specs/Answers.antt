@@ -24,6 +24,10 @@ abbrev pub answer : Option Pair → ℕ → Answer
 answer (some p) count = Calls (p .waiter .job) count
 answer none count = Nobody count
 
+-- document 01's search, over the values of the measures and the jobs that wait
+abbrev pub searched : List ℤ → List Waiter → Answer
+searched now ws = answer (found now ws) (evaluated now ws)
+
 -- the same of a walk: a node is of job node / 4
 abbrev pub asAnswer : Walk → Answer
 asAnswer (walk.Found node count) = Calls (node / 4) count
@@ -49,3 +53,10 @@ module _ (pairAt : ℕ → Pair) (now : List ℤ) (test : ℕ → Bool) where
       go (x ∷ l) n m e c = byBool (test x)
           (λ t. rw (t, sym (e x (mathlib.Core.Logic.inl refl)) ∙ t) (λ i. Calls (sym (j x) i) (c i)))
           (λ t. rw (t, sym (e x (mathlib.Core.Logic.inl refl)) ∙ t) (go l n m (λ y h. e y (mathlib.Core.Logic.inr h)) c))
+
+-- ---- the answers of `answer_of`
+pub as-found : {w : Walk} {node count : ℕ} → w ≡ walk.Found node count → Calls (node / 4) count ≡ asAnswer w
+as-found e = ap asAnswer (sym e)
+
+pub as-nobody : {w : Walk} {count : ℕ} → w ≡ walk.Nobody count → Nobody count ≡ asAnswer w
+as-nobody e = ap asAnswer (sym e)

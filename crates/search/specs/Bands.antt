@@ -35,10 +35,10 @@ module _ (rank word : ℕ → ℕ) (all : List ℕ) where
   pub stretch-whole : (d : ℕ) (l : List ℕ) → Rising rank all → Stretch 0 d l → ((x : ℕ) → In x all → word x < d) → l ≡ all
   stretch-whole d l r s f = rising-same rank l all (s .rising) r (λ x h. s .only x h .0) (λ x h. s .every x h (omega arith) (f x h))
 
-  module _ (wordly : (x y : ℕ) → word x < word y → rank x < rank y) where
+  module _ (wordly : (x y : ℕ) → In x all → In y all → word x < word y → rank x < rank y) where
     pub stretch-append : (b c d : ℕ) (l m : List ℕ) → b ≤ c → c ≤ d → Stretch b c l → Stretch c d m → Stretch b d (l ++ m)
     stretch-append b c d l m p q s t = record {
-      rising = rising-append rank l m (s .rising) (t .rising) (λ x y g h. wordly x y (omega (arith, s .only x g .2, t .only y h .1)));
+      rising = rising-append rank l m (s .rising) (t .rising) (λ x y g h. wordly x y (s .only x g .0) (t .only y h .0) (omega (arith, s .only x g .2, t .only y h .1)));
       only = λ x h. elim (in-append x l m h) [ inl g ↦ (let r = s .only x g in (r .0, r .1, omega (arith, r .2))) | inr g ↦ (let r = t .only x g in (r .0, omega (arith, r .1), r .2)) ];
       every = λ x h g k. byLt (word x) c (λ z. in-left x l m (s .every x h g z)) (λ z. in-right x l m (t .every x h z k));
     }

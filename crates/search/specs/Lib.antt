@@ -11,5 +11,7 @@ pub mod Answers
 pub mod Live
 pub mod Placed
 pub mod Stretched
+pub mod Prepared
 pub mod Whole
 pub mod Rules
+pub mod Indexed

@@ -50,7 +50,6 @@ pub record Searchable : Type 0 where
   pub now : List ℤ
   pub fit : SlotsFit measures slots
   pub index : Index slots ticket entry high low places lengths
-  pub low-fits : (k : ℕ) → getD low k 0 < 2 ^ 64
   pub ticket-fits : (k : ℕ) → getD ticket k 0 < 2 ^ 32
   pub room : (m : ℕ) → Within keyRoom (getD now m (pos 0))
 
@@ -109,20 +108,23 @@ module _ (q : Searchable) where
         low-is = ap (λ y. getD (q .low) y 0) (small ∙ sym same) ∙ r .1;
       }
 
+  pub low-fits : (x : ℕ) → node x ≡ true → getD (q .low) (x % 128) 0 < 2 ^ 64
+  low-fits x n = omega (arith, node-is x n .low-is, q .ticket-fits (x / 4))
+
   pub nodes-apart : (y z : ℕ) → node y ≡ true → node z ≡ true → rankOf y ≡ rankOf z → y ≡ z
   nodes-apart y z f g e =
       let a = node-is y f in
       let b = node-is z g in
-      let l = two-low (wordOf (q .high) y) (getD (q .low) (y % 128) 0) (wordOf (q .high) z) (getD (q .low) (z % 128) 0) (q .low-fits (y % 128)) (q .low-fits (z % 128)) e in
+      let l = two-low (wordOf (q .high) y) (getD (q .low) (y % 128) 0) (wordOf (q .high) z) (getD (q .low) (z % 128) 0) (low-fits y f) (low-fits z g) e in
       let j : y / 4 ≡ z / 4 = q .index .distinct (y / 4) (z / 4) (a .waits) (b .waits) (omega (arith, l, a .low-is, b .low-is)) in
       let k : y % 4 ≡ z % 4 = omega (arith, l, a .low-is, b .low-is, ap (λ u. getD (q .ticket) u 0) j) in
       omega (arith, j, k)
 
-  pub by-word : (x y : ℕ) → wordOf (q .high) x < wordOf (q .high) y → rankOf x < rankOf y
-  by-word x y h = two-less (wordOf (q .high) x) (getD (q .low) (x % 128) 0) (wordOf (q .high) y) (getD (q .low) (y % 128) 0) (q .low-fits (x % 128)) h
+  pub by-word : (x y : ℕ) → node x ≡ true → wordOf (q .high) x < wordOf (q .high) y → rankOf x < rankOf y
+  by-word x y n h = two-less (wordOf (q .high) x) (getD (q .low) (x % 128) 0) (wordOf (q .high) y) (getD (q .low) (y % 128) 0) (low-fits x n) h
 
-  pub word-before : (x y : ℕ) → rankOf x < rankOf y → wordOf (q .high) x ≤ wordOf (q .high) y
-  word-before x y h = two-high (wordOf (q .high) x) (getD (q .low) (x % 128) 0) (wordOf (q .high) y) (getD (q .low) (y % 128) 0) (q .low-fits (x % 128)) (q .low-fits (y % 128)) h
+  pub word-before : (x y : ℕ) → node x ≡ true → node y ≡ true → rankOf x < rankOf y → wordOf (q .high) x ≤ wordOf (q .high) y
+  word-before x y n m h = two-high (wordOf (q .high) x) (getD (q .low) (x % 128) 0) (wordOf (q .high) y) (getD (q .low) (y % 128) 0) (low-fits x n) (low-fits y m) h
 
   -- ---- a home holds the nodes that belong there
   abbrev pub belongs : ℕ → ℕ → Bool

@@ -2,7 +2,7 @@
 -- the order of ranks; so `law-found` and `law-count` say that it finds and counts what document 01 does.
 use mathlib.Core.Path.{_≡_, refl, sym, ap, _∙_, subst}
 use mathlib.Core.Bool.{Bool, true, false, not, _&&_}
-use mathlib.Core.List.{List, map}
+use mathlib.Core.List.{List, map, _++_}
 use Prim.Native.Nat.{ℕ, _+_, _*_, _-_, _/_, _%_, _^_, _<_, _≤_}
 use native.Mathlib.Omega.{arith}
 use lib.Dec.{eqb, ltb}
@@ -11,7 +11,7 @@ use lib.ListN.{getD}
 use Rattle.rules.specs.Condition.{identical, alternativeTrue}
 use Rattle.rules.specs.Tag.{tag, holds, tagHolds}
 use Rattle.rules.specs.Rank.{before}
-use Rattle.rules.specs.Search.{Waiter, Pair, follows, found, evaluated}
+use Rattle.rules.specs.Search.{Waiter, Pair, follows}
 use Rattle.rules.specs.Laws.In.{In, byBool, true-not-false, both, any-in, any-some}
 use Rattle.rules.specs.Laws.Identical.{identical-true, identical-same}
 use Rattle.rules.specs.Laws.InRankOrder.{Ordered, law-found, law-count}
@@ -24,7 +24,12 @@ use Rattle.rows.specs.Halves.{wordOf}
 use Rattle.entries.specs.Entries.{Waits, isLead, Led, waits-below}
 use Rattle.index.specs.Filed.{countIn}
 use Rattle.walk.specs.Walks.{nodeTrue, walked}
-use Rattle.search.specs.Answers.{answer, asAnswer, same-walk}
+use Rattle.homes.specs.Regions.{region}
+use Rattle.search.specs.Stretches.{lists}
+use Rattle.search.specs.Runs.{nodesOf}
+use Rattle.search.specs.Lookups.{equalities}
+use Rattle.search.specs.Heaps.{thresholds}
+use Rattle.search.specs.Answers.{answer, searched, asAnswer, same-walk}
 use Rattle.search.specs.Pairs.{waiterAt, waitersIn, in-waiters, waiters-in, alternativeOf, pairAt, Listed, rearranged, ordered-pairs}
 use Rattle.search.specs.Live.{Searchable, node, rankOf, tagFor, tagged, node-is, fits-is, tag-is}
 use Rattle.search.specs.Stretched.{holding, in-holding, holding-in, rising-holding}
@@ -68,7 +73,7 @@ module _ (q : Searchable) where
       let l = q .index .entries j w in
       let first = l .oldest j w refl in
       let less : getD (q .ticket) n 0 < getD (q .ticket) j 0 = Rattle.nodes.specs.Counts.byEq (getD (q .ticket) n 0) (getD (q .ticket) j 0)
-          (λ e. true-not-false (eq-eqb (getD (q .entry) j 0) (j + 1) (omega (arith, q .index .distinct n j (l .waits) w e))) t) (λ d. omega (arith, first)) in
+      (λ e. true-not-false (eq-eqb (getD (q .entry) j 0) (j + 1) (omega (arith, q .index .distinct n j (l .waits) w e))) t) (λ d. omega (arith, first)) in
       any-in (λ (v : Waiter). identical (v .condition) (at j .condition) && ltb (v .ticket) (at j .ticket)) {a = at n} waiting
       (waiters-in (q .slots) (q .ticket) (q .entry) n (waits-below (q .entry) 32 n (omega (arith, q .index .size)) (l .waits)) (l .waits))
       (rw (ap (λ c. identical c (conditionIn (q .slots) j)) (l .same) ∙ identical-same (conditionIn (q .slots) j), lt-ltb (getD (q .ticket) n 0) (getD (q .ticket) j 0) less))
@@ -112,7 +117,7 @@ module _ (q : Searchable) where
       let b = in-holding q y k in
       let fits : (z : ℕ) → TagFits (tag (alternative (z / 4 * 4 + z % 4))) = λ z. subst TagFits (tag-of z ∙ ap (λ y. tag (alternative y)) (sym (whole z))) (fits-is q z) in
       let held : (z : ℕ) → node q z ≡ true → tagged q z ≡ true → tagHolds (q .now) (alternative (z / 4 * 4 + z % 4)) ≡ true =
-          λ z n t. ap (λ y. tagHolds (q .now) (alternative y)) (whole z) ∙ sym (tagged-is z n) ∙ t in
+      λ z n t. ap (λ y. tagHolds (q .now) (alternative y)) (whole z) ∙ sym (tagged-is z n) ∙ t in
       word-order (q .now) (alternative (x / 4 * 4 + x % 4)) (alternative (y / 4 * 4 + y % 4)) (getD (q .ticket) (x / 4) 0) (getD (q .ticket) (y / 4) 0) (x % 4) (y % 4)
       (held x (a .0) (a .1)) (held y (b .0) (b .1)) (fits x) (fits y) (q .ticket-fits (x / 4)) (q .ticket-fits (y / 4)) (omega arith) (omega arith)
       ∙ lt-ltb (word (alternative (x / 4 * 4 + x % 4)) (getD (q .ticket) (x / 4) 0) (x % 4)) (word (alternative (y / 4 * 4 + y % 4)) (getD (q .ticket) (y / 4) 0) (y % 4))
@@ -125,7 +130,7 @@ module _ (q : Searchable) where
   abbrev pub test : ℕ → Bool
   test = nodeTrue (q .now) (q .slots .atoms) (q .slots .measure) (q .slots .operator) (q .slots .key)
 
-  pub search-is-the-rules-search : asAnswer (walked test (walkOrder q)) ≡ answer (found (q .now) waiting) (evaluated (q .now) waiting)
+  pub search-is-the-rules-search : asAnswer (walked test (walkOrder q)) ≡ searched (q .now) waiting
   search-is-the-rules-search =
       let held = rearranged (q .slots) (q .ticket) (q .entry) (isLead (q .entry)) lead-waits leads-oldest (q .now) (holding q) nodes-listed pairs-ordered in
       ap (λ l. asAnswer (walked test l)) (walks-holding q)
@@ -133,3 +138,9 @@ module _ (q : Searchable) where
       (λ x h. let small : x % 128 ≡ x = omega (arith, node-is q x (in-holding q x h .0) .below) in ap (λ y. alternativeTrue (q .now) (alternative y)) (small ∙ sym (whole x)))
       (λ x. refl)
       ∙ (λ i. answer (law-found (q .now) waiting (map pair (holding q)) pairs-ordered held i) (law-count (q .now) waiting (map pair (holding q)) pairs-ordered held i))
+
+  -- as the code tells it
+  pub walked-order : asAnswer (walked test (lists (equalities (q .now) (q .high) (region (q .places) 32) (getD (q .lengths) 32 0)) (q .measures) 0
+      ++ (lists (thresholds (tagged q) (rankOf q) (q .places) (q .lengths)) (q .measures * 2) 0 ++ nodesOf (region (q .places) 33) (getD (q .lengths) 33 0)))) ≡ asAnswer (walked test (walkOrder q))
+  unfolding walkOrder
+  walked-order = refl

@@ -65,14 +65,14 @@ module _ (high row : List ℕ) (n w a b : ℕ) (fits : n ≤ length row) (f : Re
       let first : those test (from at a 0) ≡ [] = failing a 0 (λ j p q d. omega (arith, f .less j (omega arith))) in
       let last : those test (from at (n - b) b) ≡ [] = failing (n - b) b (λ j p q d. omega (arith, g .more j p (omega (arith, g .most)))) in
       let middle : those test (from at (b - a) a) ≡ from at (b - a) a = those-all test (from at (b - a) a)
-          (λ x i. let r = from-in at (b - a) a x i in
-          let lower = f .more (r .0) (r .1) (omega (arith, r .2, g .most)) in
-          let upper = g .less (r .0) (omega (arith, r .2)) in
-          eq-eqb (wordOf high x) w (omega (arith, lower, upper, ap (wordOf high) (r .3)))) in
+      (λ x i. let r = from-in at (b - a) a x i in
+      let lower = f .more (r .0) (r .1) (omega (arith, r .2, g .most)) in
+      let upper = g .less (r .0) (omega (arith, r .2)) in
+      eq-eqb (wordOf high x) w (omega (arith, lower, upper, ap (wordOf high) (r .3)))) in
       let split : from at n 0 ≡ from at a 0 ++ (from at (b - a) a ++ from at (n - b) b) =
-          ap (λ k. from at k 0) e ∙ from-split at a (b - a + (n - b)) 0
-          ∙ ap (λ p. from at a 0 ++ from at (b - a + (n - b)) p) z
-          ∙ ap (λ l. from at a 0 ++ l) (from-split at (b - a) (n - b) a ∙ ap (λ p. from at (b - a) a ++ from at (n - b) p) m) in
+      ap (λ k. from at k 0) e ∙ from-split at a (b - a + (n - b)) 0
+      ∙ ap (λ p. from at a 0 ++ from at (b - a + (n - b)) p) z
+      ∙ ap (λ l. from at a 0 ++ l) (from-split at (b - a) (n - b) a ∙ ap (λ p. from at (b - a) a ++ from at (n - b) p) m) in
       part-from row a (b - a) (omega (arith, o, g .most))
       ∙ sym (ap (those test) split
       ∙ those-append test (from at a 0) (from at (b - a) a ++ from at (n - b) b)

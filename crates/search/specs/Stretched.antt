@@ -49,6 +49,9 @@ module _ (q : Searchable) where
   unfolding holding
   rising-holding = rising-listed (rankOf q) (λ y. node q y && tagged q y) 128 (λ y z a b e. nodes-apart q y z (both (node q y) (tagged q y) a .0) (both (node q z) (tagged q z) b .0) e)
 
+  pub holding-words : (x y : ℕ) → In x holding → In y holding → wordFor q x < wordFor q y → rankOf q x < rankOf q y
+  holding-words x y h k l = by-word q x y (in-holding x h .0) l
+
   abbrev pub Part : ℕ → ℕ → List ℕ → Type 0
   Part = Stretch (rankOf q) (wordFor q) holding
 
@@ -67,7 +70,7 @@ module _ (q : Searchable) where
     falls x y h k r t =
         let a = of-heap x h in
         let b = of-heap y k in
-        let w = word-before q x y r in
+        let w = word-before q x y (a .0) (b .0) r in
         let up = node-is q x (a .0) .high-is in
         let down = node-is q y (b .0) .high-is in
         tag-is q x (a .0)
@@ -89,8 +92,8 @@ module _ (q : Searchable) where
               let a = in-holding x h in
               let p = placed q x (a .0) in
               let home : homeFor q x ≡ g = byLt (homeFor q x) 32
-                  (λ l. let b = p .heap l in omega (arith, b .0, b .1))
-                  (λ l. byLt (homeFor q x) 33 (λ m. absurd (omega (arith, p .equality (omega arith), q .fit .few))) (λ m. absurd (omega (arith, p .below, p .untagged (omega (arith, p .below)))))) in
+              (λ l. let b = p .heap l in omega (arith, b .0, b .1))
+              (λ l. byLt (homeFor q x) 33 (λ m. absurd (omega (arith, p .equality (omega arith), q .fit .few))) (λ m. absurd (omega (arith, p .below, p .untagged (omega (arith, p .below)))))) in
               while-every (rankOf q) (tagged q) (heapOf g) rises falls x
               (sorted-in (rankOf q) (belongs q g) (region (q .places) g) (getD (q .lengths) g 0) held x (node-belongs q g x (a .0) home)) (a .1);
         }

@@ -3,10 +3,10 @@ use mathlib.Core.Path.{_≡_, refl, sym, ap, _∙_}
 use mathlib.Core.Bool.{Bool, true, false}
 use mathlib.Core.List.{List, [], _∷_, _++_}
 use mathlib.Core.Option.{Option, none, some}
-use Prim.Native.Nat.{ℕ, zero, suc, _+_, _-_, _<_, _≤_}
+use Prim.Native.Nat.{ℕ, zero, suc, _+_, _-_, _*_, _<_, _≤_}
 use native.Mathlib.Omega.{arith}
 use native.Mathlib.Nat.{sub-zero}
-use lib.ListN.{length}
+use lib.ListN.{length, length-append}
 use mir.Syntax.{w64}
 use mir.Val.{Fits}
 use Rattle.rules.specs.Base.{if_then_else_, first, gather}
@@ -57,7 +57,6 @@ module _ (test : ℕ → Bool) where
       let n : c + k + upTo test m ≡ c + upTo test (l ++ m) = omega (arith, i .1, r .1) in
       ap (told (first test m)) n ∙ ap (λ o. told o (c + upTo test (l ++ m))) (sym (r .0))
 
-
 -- how many a walk evaluated
 abbrev pub countOf : Walk → ℕ
 countOf (Found x k) = k
@@ -80,12 +79,15 @@ count-most test l most {u} e h = rw e (go (first test l) (upTo test l) (omega (a
     go (some x) n h = h
     go none n h = h
 
--- ---- the answers of `counted`
-pub found-fits : {u : Walk} {x k : ℕ} (before : ℕ) → u ≡ Found x k → before ≤ 8192 → countOf u ≤ 128 → Fits w64 (before + k)
-found-fits {u} {x} {k} before e p h = let m : k ≤ 128 = rw e at h in record { fits = omega arith }
+pub nobody-most : (test : ℕ → Bool) (l : List ℕ) (most k : ℕ) {u : Walk} → u ≡ walked test l → u ≡ Nobody k → length l ≤ most → k ≤ most
+nobody-most test l most k e d h = rw d at (count-most test l most e h)
 
-pub nobody-fits : {u : Walk} {k : ℕ} (before : ℕ) → u ≡ Nobody k → before ≤ 8192 → countOf u ≤ 128 → Fits w64 (before + k)
-nobody-fits {u} {k} before e p h = let m : k ≤ 128 = rw e at h in record { fits = omega arith }
+-- ---- the answers of `counted`
+pub found-fits : {u : Walk} {x k : ℕ} (before : ℕ) → u ≡ Found x k → before ≤ 8192 → countOf u ≤ 8192 → Fits w64 (before + k)
+found-fits {u} {x} {k} before e p h = let m : k ≤ 8192 = rw e at h in record { fits = omega arith }
+
+pub nobody-fits : {u : Walk} {k : ℕ} (before : ℕ) → u ≡ Nobody k → before ≤ 8192 → countOf u ≤ 8192 → Fits w64 (before + k)
+nobody-fits {u} {k} before e p h = let m : k ≤ 8192 = rw e at h in record { fits = omega arith }
 
 pub after-found : {u : Walk} {x k : ℕ} (before : ℕ) → u ≡ Found x k → Found x (before + k) ≡ after before u
 after-found before e = ap (after before) (sym e)
@@ -96,6 +98,10 @@ after-nobody before e = ap (after before) (sym e)
 -- so many lists one after the other, from number i on
 abbrev pub lists : (ℕ → List ℕ) → ℕ → ℕ → List ℕ
 lists f n i = gather f (from (λ j. j) n i)
+
+pub lists-long : (f : ℕ → List ℕ) (n i : ℕ) → ((j : ℕ) → i ≤ j → j < i + n → length (f j) ≤ 128) → length (lists f n i) ≤ n * 128
+lists-long f zero i h = omega arith
+lists-long f (suc n) i h = omega (arith, length-append (f i) (lists f n (suc i)), h i (omega arith) (omega arith), lists-long f n (suc i) (λ j p q. h j (omega arith) (omega arith)))
 
 -- ---- as the code goes along: f i is walked, and r is what it tells after those before
 module _ (test : ℕ → Bool) (f : ℕ → List ℕ) (n : ℕ) where

@@ -20,9 +20,9 @@ use Rattle.search.specs.Bands.{stretch-reaches, stretch-whole, stretch-a
 use Rattle.search.specs.Runs.{nodesOf, run}
 use Rattle.search.specs.Lookups.{equalities}
 use Rattle.search.specs.Heaps.{thresholds}
-use Rattle.search.specs.Live.{Searchable, node, rankOf, tagFor, homeFor, tagged, node-is, by-word, home-is, fits-is, operator-is, tag-is}
+use Rattle.search.specs.Live.{Searchable, node, rankOf, tagFor, homeFor, tagged, node-is, home-is, fits-is, operator-is, tag-is}
 use Rattle.search.specs.Placed.{wordFor, Placed, placed}
-use Rattle.search.specs.Stretched.{holding, in-holding, holding-in, rising-holding, Part, heap-stretch, in-row, row-in, rising-row}
+use Rattle.search.specs.Stretched.{holding, in-holding, holding-in, rising-holding, holding-words, Part, heap-stretch, in-row, row-in, rising-row}
 
 module _ (q : Searchable) where
   -- ---- which home a word tells
@@ -94,7 +94,7 @@ module _ (q : Searchable) where
   all-equalities =
       let e : 0 + 0 * 2 ^ 42 ≡ 0 = omega arith in
       let d : 0 + (0 + q .measures) * 2 ^ 42 ≡ q .measures * 2 ^ 42 = omega arith in
-      let s = stretch-lists (rankOf q) (wordFor q) (holding q) (by-word q) 0 (2 ^ 42) equal (q .measures) 0 (λ j p r. equality-stretch j (omega (arith, q .fit .few))) in
+      let s = stretch-lists (rankOf q) (wordFor q) (holding q) (holding-words q) 0 (2 ^ 42) equal (q .measures) 0 (λ j p r. equality-stretch j (omega (arith, q .fit .few))) in
       stretch-reaches (rankOf q) (wordFor q) (holding q) 0 (q .measures * 2 ^ 42) (2 ^ 46) (lists equal (q .measures) 0) (omega (arith, q .fit .few)) (rw (e, d) at s)
       (λ x h lo hi. let a = in-holding q x h in omega (arith, placed q x (a .0) .equality (word-equality x (a .0) hi)))
 
@@ -102,7 +102,7 @@ module _ (q : Searchable) where
   all-thresholds =
       let e : 2 ^ 46 + 0 * 2 ^ 41 ≡ 2 ^ 46 = omega arith in
       let d : 2 ^ 46 + (0 + q .measures * 2) * 2 ^ 41 ≡ 2 ^ 46 + q .measures * 2 * 2 ^ 41 = omega arith in
-      let s = stretch-lists (rankOf q) (wordFor q) (holding q) (by-word q) (2 ^ 46) (2 ^ 41) heaps (q .measures * 2) 0 (λ j p r. heap-stretch q j (omega (arith, q .fit .few))) in
+      let s = stretch-lists (rankOf q) (wordFor q) (holding q) (holding-words q) (2 ^ 46) (2 ^ 41) heaps (q .measures * 2) 0 (λ j p r. heap-stretch q j (omega (arith, q .fit .few))) in
       stretch-reaches (rankOf q) (wordFor q) (holding q) (2 ^ 46) (2 ^ 46 + q .measures * 2 * 2 ^ 41) (2 * 2 ^ 46) (lists heaps (q .measures * 2) 0) (omega (arith, q .fit .few)) (rw (e, d) at s)
       (λ x h lo hi. no-more x h lo hi)
     where
@@ -126,7 +126,7 @@ module _ (q : Searchable) where
   pub walks-holding : walkOrder ≡ holding q
   unfolding walkOrder equal untagged
   walks-holding =
-      let end = stretch-append (rankOf q) (wordFor q) (holding q) (by-word q) (2 ^ 46) (2 * 2 ^ 46) (3 * 2 ^ 46) (lists heaps (q .measures * 2) 0) untagged (omega arith) (omega arith) all-thresholds untagged-stretch in
+      let end = stretch-append (rankOf q) (wordFor q) (holding q) (holding-words q) (2 ^ 46) (2 * 2 ^ 46) (3 * 2 ^ 46) (lists heaps (q .measures * 2) 0) untagged (omega arith) (omega arith) all-thresholds untagged-stretch in
       stretch-whole (rankOf q) (wordFor q) (holding q) (3 * 2 ^ 46) (lists equal (q .measures) 0 ++ (lists heaps (q .measures * 2) 0 ++ untagged)) (rising-holding q)
-      (stretch-append (rankOf q) (wordFor q) (holding q) (by-word q) 0 (2 ^ 46) (3 * 2 ^ 46) (lists equal (q .measures) 0) (lists heaps (q .measures * 2) 0 ++ untagged) (omega arith) (omega arith) all-equalities end)
+      (stretch-append (rankOf q) (wordFor q) (holding q) (holding-words q) 0 (2 ^ 46) (3 * 2 ^ 46) (lists equal (q .measures) 0) (lists heaps (q .measures * 2) 0 ++ untagged) (omega arith) (omega arith) all-equalities end)
       word-most

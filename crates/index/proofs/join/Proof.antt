@@ -52,16 +52,6 @@ cut-nodes-requires c κs =
     old-asks (slots s) (a .ticket .now) (a .high .now) (a .low .now) (a .entry .now) _ (a .places .now) (a .lengths .now) (a .job) (s .pre .1 .1 .1 .1 .1 .1) (s .pre .1 .1 .1 .0)
     (e .join-entry .ensures) (o .joined .given .0 .0) (o .joined .given .1) (s .pre .1 .0)
 
-put-nodes-requires-2 : tie.Need-put-nodes-requires-2
-put-nodes-requires-2 c κs =
-    let n = c .before .before .before .before .before .before in
-    let o = n .before .before .before .before in
-    let e = o .before .before in
-    let s = e .before .before .before .before in
-    let a = s .args in
-    new-asks (slots s) (a .ticket .now) (a .high .now) (a .low .now) (a .entry .now) _ (a .places .now) (a .lengths .now) (a .job) (s .pre .1 .1 .1 .1 .1 .1) (s .pre .1 .1 .1 .0)
-    (e .join-entry .ensures) (o .joined .given .0 .0) (o .joined .given .1) _ _ (n .cut-nodes .ensures) (s .pre .1 .0) (s .pre .0)
-
 returns-3 : tie.Need-returns-3
 returns-3 c =
     let p = c .before .before .before .before in
@@ -72,6 +62,16 @@ returns-3 c =
     let a = s .args in
     leads-index (slots s) (a .ticket .now) (a .high .now) (a .low .now) (a .entry .now) _ (a .places .now) (a .lengths .now) (a .job) (s .pre .1 .1 .1 .1 .1 .1) (s .pre .1 .1 .1 .0)
     (e .join-entry .ensures) (o .joined .given .0 .0) (o .joined .given .1) _ _ (n .cut-nodes .ensures) (s .pre .1 .1 .1 .1 .0) (s .pre .1 .1 .1 .1 .1 .0) _ _ (p .put-nodes2 .ensures)
+
+put-nodes-requires-2 : tie.Need-put-nodes-requires-2
+put-nodes-requires-2 c κs =
+    let n = c .before .before .before .before .before .before in
+    let o = n .before .before .before .before in
+    let e = o .before .before in
+    let s = e .before .before .before .before in
+    let a = s .args in
+    new-asks (slots s) (a .ticket .now) (a .high .now) (a .low .now) (a .entry .now) _ (a .places .now) (a .lengths .now) (a .job) (s .pre .1 .1 .1 .1 .1 .1) (s .pre .1 .1 .1 .0)
+    (e .join-entry .ensures) (o .joined .given .0 .0) (o .joined .given .1) _ _ (n .cut-nodes .ensures) (s .pre .1 .0) (s .pre .0)
 
 pub join-spec : {M : Type 1} → statement M
 join-spec =

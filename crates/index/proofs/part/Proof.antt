@@ -54,17 +54,6 @@ cut-nodes-requires-2 c κs =
     lead-asks (slots s) (a .ticket .now) (a .high .now) (a .low .now) (a .entry .now) _ (a .places .now) (a .lengths .now) (a .job) q (e .part-entry .ensures (conditionIn (slots s)) (q .entries))
     (o .parted .given .0 .0) (o .parted .given .1) (s .pre .1 .0)
 
-put-nodes-requires : tie.Need-put-nodes-requires
-put-nodes-requires c κs =
-    let n = c .before .before .before .before .before .before in
-    let o = n .before .before .before .before in
-    let e = o .before .before in
-    let s = e .before .before .before .before in
-    let a = s .args in
-    let q = s .pre .1 .1 .1 in
-    next-asks (slots s) (a .ticket .now) (a .high .now) (a .low .now) (a .entry .now) _ (a .places .now) (a .lengths .now) (a .job) q (e .part-entry .ensures (conditionIn (slots s)) (q .entries))
-    (o .parted .given .0 .0) (o .parted .given .1) _ _ (n .cut-nodes2 .ensures) (s .pre .1 .0)
-
 returns-3 : tie.Need-returns-3
 returns-3 c =
     let p = c .before .before .before .before in
@@ -76,6 +65,17 @@ returns-3 c =
     let q = s .pre .1 .1 .1 in
     next-index (slots s) (a .ticket .now) (a .high .now) (a .low .now) (a .entry .now) _ (a .places .now) (a .lengths .now) (a .job) q (e .part-entry .ensures (conditionIn (slots s)) (q .entries))
     (o .parted .given .0 .0) (o .parted .given .1) _ _ (n .cut-nodes2 .ensures) _ _ (p .put-nodes .ensures)
+
+put-nodes-requires : tie.Need-put-nodes-requires
+put-nodes-requires c κs =
+    let n = c .before .before .before .before .before .before in
+    let o = n .before .before .before .before in
+    let e = o .before .before in
+    let s = e .before .before .before .before in
+    let a = s .args in
+    let q = s .pre .1 .1 .1 in
+    next-asks (slots s) (a .ticket .now) (a .high .now) (a .low .now) (a .entry .now) _ (a .places .now) (a .lengths .now) (a .job) q (e .part-entry .ensures (conditionIn (slots s)) (q .entries))
+    (o .parted .given .0 .0) (o .parted .given .1) _ _ (n .cut-nodes2 .ensures) (s .pre .1 .0)
 
 pub part-spec : {M : Type 1} → statement M
 part-spec =

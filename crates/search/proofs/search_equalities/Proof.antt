@@ -29,7 +29,7 @@ one-requires c κs =
 counted-requires : tie.Need-counted-requires Inv-loop μ-loop
 counted-requires c κs =
     let a = c .before .before .before .before .args in
-    (search needs, count-most _ _ 128 (c .search-measure .ensures) (equalities-most (nowAt (a .coefficients .now) (a .values .now)) (a .high .now) (a .row .now) (a .n) _ 128 (search needs)))
+    (search needs, count-most _ _ 8192 (c .search-measure .ensures) (equalities-most (nowAt (a .coefficients .now) (a .values .now)) (a .high .now) (a .row .now) (a .n) _ 8192 (search needs)))
 
 returns : tie.Need-returns Inv-loop μ-loop
 returns c =
@@ -44,8 +44,7 @@ loop-again c =
     let a = l .before .before .before .args in
     let parts = equalities (nowAt (a .coefficients .now) (a .values .now)) (a .high .now) (a .row .now) (a .n) in
     let most = lists-most _ parts _ (l .before .loop .i) (l .before .loop .evaluated) (l .before .loop .inv .2) (l .loop-test .taken) (r .before .search-measure .ensures) (r .counted .ensures) _ 128 (c .before .walk .given .1)
-        (equalities-most (nowAt (a .coefficients .now) (a .values .now)) (a .high .now) (a .row .now) (a .n) _ 128 (search needs)) in
-    (
+    (equalities-most (nowAt (a .coefficients .now) (a .values .now)) (a .high .now) (a .row .now) (a .n) _ 128 (search needs)) in (
       omega (arith, most, l .before .loop .inv .0),
       search needs,
       lists-pass _ parts _ (l .before .loop .i) (l .before .loop .evaluated) (l .before .loop .inv .2) (l .loop-test .taken) (r .before .search-measure .ensures) (r .counted .ensures) _ (c .before .walk .given .1),

@@ -15,10 +15,19 @@ heap-requires c κs =
     let g = a .heap in
     let k = g * 128 + 128 - g * 128 in
     let size : k ≡ 128 = omega arith in
-    let r = s .pre .1 .1 .1 .1 in
-    (part-fits (rank (a .high .now) (a .low .now)) (a .places .now) (a .lengths .now) g k size r (search needs) (search needs), (r .few, (s .pre .1 .1 .1 .0,
-    (part-order (rank (a .high .now) (a .low .now)) (a .places .now) (a .lengths .now) g k size r,
-    part-apart (rank (a .high .now) (a .low .now)) (a .places .now) (a .lengths .now) g k size r))))
+    let r = s .pre .1 .1 .1 .1 in (
+      part-fits (rank (a .high .now) (a .low .now)) (a .places .now) (a .lengths .now) g k size r (search needs) (search needs),
+      (
+        r .few,
+        (
+          s .pre .1 .1 .1 .0,
+          (
+            part-order (rank (a .high .now) (a .low .now)) (a .places .now) (a .lengths .now) g k size r,
+            part-apart (rank (a .high .now) (a .low .now)) (a .places .now) (a .lengths .now) g k size r,
+          ),
+        ),
+      ),
+    )
 
 returns : tie.Need-returns
 returns c =

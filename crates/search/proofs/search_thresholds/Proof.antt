@@ -32,7 +32,7 @@ counted-requires : tie.Need-counted-requires Inv-loop μ-loop
 counted-requires c κs =
     let s = c .before .before .before .before .before in
     let g = c .before .before .loop .g in
-    (search needs, count-most _ _ 128 (c .search-heap .ensures) (thresholds-most _ _ (s .args .places .now) (s .args .lengths .now) g (s .pre .1 .1 .1 .1 g (search needs))))
+    (search needs, omega (arith, count-most _ _ 128 (c .search-heap .ensures) (thresholds-most _ _ (s .args .places .now) (s .args .lengths .now) g (s .pre .1 .1 .1 .1 g (search needs)))))
 
 returns : tie.Need-returns Inv-loop μ-loop
 returns c =
@@ -51,8 +51,7 @@ loop-again c =
     let tag = nodeTag (nowAt (a .coefficients .now) (a .values .now)) (a .atoms .now) (a .measure .now) (a .operator .now) (a .key .now) in
     let parts = thresholds tag (rank (a .high .now) (a .low .now)) (a .places .now) (a .lengths .now) in
     let most = lists-most _ parts _ g before (l .before .loop .inv .2) (l .loop-test .taken) (r .before .search-heap .ensures) (r .counted .ensures) _ 128 (c .before .walk .given .1)
-        (thresholds-most tag (rank (a .high .now) (a .low .now)) (a .places .now) (a .lengths .now) g (s .pre .1 .1 .1 .1 g (search needs))) in
-    (
+    (thresholds-most tag (rank (a .high .now) (a .low .now)) (a .places .now) (a .lengths .now) g (s .pre .1 .1 .1 .1 g (search needs))) in (
       omega (arith, most, l .before .loop .inv .0),
       search needs,
       lists-pass _ parts _ g before (l .before .loop .inv .2) (l .loop-test .taken) (r .before .search-heap .ensures) (r .counted .ensures) _ (c .before .walk .given .1),

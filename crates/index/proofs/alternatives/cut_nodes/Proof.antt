@@ -1,11 +1,12 @@
 -- `cut_nodes` meets its contract: the first i nodes are out of their homes, and the others are there still.
 use borrow.Author.Needs.{needs}
 use mathlib.Core.Path.{_≡_}
-use Prim.Native.Nat.{ℕ, _+_, _*_, _-_, _<_, _≤_, min}
+use Prim.Native.Nat.{ℕ, _-_, _<_, _≤_, min}
 use native.Mathlib.Omega.{arith}
 use lib.ListN.{getD, length}
 use Rattle.nodes.specs.Ranks.{rank}
-use Rattle.index.specs.Nodes.{homeOf, mine, Taken}
+use Rattle.index.specs.Mine.{mine}
+use Rattle.index.specs.Nodes.{homeOf, Taken}
 use Rattle.index.specs.Loops.{cut-none, cut-next, cut-most, cut-held, home-small}
 use Rattle.index.proofs.alternatives.cut_nodes.Statement.{statement}
 use Rattle.index.proofs.alternatives.cut_nodes.Tie as tie
@@ -30,7 +31,7 @@ cut-requires c κs =
     let a = s .args in
     let one = home-small (a .atoms .now) (a .measure .now) (a .operator .now) _ (h .home-of .ensures) (s .pre .1 .1 .1 .0) in
     let less : l .loop .i < min (getD (a .alternatives .now) (a .job) 0) 4 = omega (arith, h .before .loop-test .taken, l .before .count-of .ensures) in
-    let held = cut-held (rank (a .high .now) (a .low .now)) (homeOf (a .atoms .now) (a .measure .now) (a .operator .now)) (a .job) (a .places .now) (a .lengths .now) (l .loop .places) (l .loop .lengths) (l .loop .places) (l .loop .lengths) (l .loop .i)
+    let held = cut-held (rank (a .high .now) (a .low .now)) (homeOf (a .atoms .now) (a .measure .now) (a .operator .now)) (a .job) (a .places .now) (a .lengths .now) (l .loop .places) (l .loop .lengths) (l .loop .i)
     (omega arith) (n .narrow .ensures) (h .home-of .ensures) one (l .loop .inv .2) _ less (s .pre .1 .1 .1 .1 .1) (l .loop .inv .4) in
     (l .loop .inv .1, (l .loop .inv .2, (one, (l .loop .inv .3 (h .home-of .result) one, held))))
 
@@ -47,10 +48,10 @@ loop-again c =
       omega (arith, h .before .loop-test .taken),
       search needs,
       search needs,
-      cut-most (rank (a .high .now) (a .low .now)) (homeOf (a .atoms .now) (a .measure .now) (a .operator .now)) (a .job) (a .places .now) (a .lengths .now) (l .loop .places) (l .loop .lengths) _ _ (l .loop .i)
-          few (n .narrow .ensures) (h .home-of .ensures) one (l .loop .inv .2) 128 (l .loop .inv .3) (p .cut .ensures),
-      cut-next (rank (a .high .now) (a .low .now)) (homeOf (a .atoms .now) (a .measure .now) (a .operator .now)) (a .job) (a .places .now) (a .lengths .now) (l .loop .places) (l .loop .lengths) _ _ (l .loop .i)
-          few (n .narrow .ensures) (h .home-of .ensures) one (l .loop .inv .2) (l .loop .inv .4) (p .cut .ensures),
+      cut-most (rank (a .high .now) (a .low .now)) (homeOf (a .atoms .now) (a .measure .now) (a .operator .now)) (a .job) (a .places .now) (a .lengths .now) (l .loop .places) (l .loop .lengths) (l .loop .i)
+          few (n .narrow .ensures) (h .home-of .ensures) one (l .loop .inv .2) _ _ 128 (l .loop .inv .3) (p .cut .ensures),
+      cut-next (rank (a .high .now) (a .low .now)) (homeOf (a .atoms .now) (a .measure .now) (a .operator .now)) (a .job) (a .places .now) (a .lengths .now) (l .loop .places) (l .loop .lengths) (l .loop .i)
+          few (n .narrow .ensures) (h .home-of .ensures) one (l .loop .inv .2) _ _ (l .loop .inv .4) (p .cut .ensures),
     )
 
 returns : tie.Need-returns Inv-loop μ-loop

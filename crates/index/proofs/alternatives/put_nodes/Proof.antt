@@ -1,11 +1,12 @@
 -- `put_nodes` meets its contract: the first i nodes are in their homes, each of which has at most i more than before.
 use borrow.Author.Needs.{needs}
 use mathlib.Core.Path.{_≡_}
-use Prim.Native.Nat.{ℕ, _+_, _*_, _-_, _<_, _≤_, min}
+use Prim.Native.Nat.{ℕ, _+_, _-_, _<_, _≤_, min}
 use native.Mathlib.Omega.{arith}
 use lib.ListN.{getD, length}
 use Rattle.nodes.specs.Ranks.{rank}
-use Rattle.index.specs.Nodes.{homeOf, mine, Added}
+use Rattle.index.specs.Mine.{mine}
+use Rattle.index.specs.Nodes.{homeOf, Added}
 use Rattle.index.specs.Loops.{put-none, put-next, put-most, home-small}
 use Rattle.index.proofs.alternatives.put_nodes.Statement.{statement}
 use Rattle.index.proofs.alternatives.put_nodes.Tie as tie
@@ -43,10 +44,10 @@ loop-again c =
       omega (arith, h .before .loop-test .taken),
       search needs,
       search needs,
-      put-most (rank (a .high .now) (a .low .now)) (homeOf (a .atoms .now) (a .measure .now) (a .operator .now)) (a .job) (a .places .now) (a .lengths .now) (l .loop .places) (l .loop .lengths) _ _ (l .loop .i)
-          few (n .narrow .ensures) (h .home-of .ensures) one (l .loop .inv .2) 124 (l .loop .inv .3) (p .put .ensures),
-      put-next (rank (a .high .now) (a .low .now)) (homeOf (a .atoms .now) (a .measure .now) (a .operator .now)) (a .job) (a .places .now) (a .lengths .now) (l .loop .places) (l .loop .lengths) _ _ (l .loop .i)
-          few (n .narrow .ensures) (h .home-of .ensures) one (l .loop .inv .2) (l .loop .inv .4) (p .put .ensures),
+      put-most (rank (a .high .now) (a .low .now)) (homeOf (a .atoms .now) (a .measure .now) (a .operator .now)) (a .job) (a .places .now) (a .lengths .now) (l .loop .places) (l .loop .lengths) (l .loop .i)
+          few (n .narrow .ensures) (h .home-of .ensures) one (l .loop .inv .2) _ _ 124 (l .loop .inv .3) (p .put .ensures),
+      put-next (rank (a .high .now) (a .low .now)) (homeOf (a .atoms .now) (a .measure .now) (a .operator .now)) (a .job) (a .places .now) (a .lengths .now) (l .loop .places) (l .loop .lengths) (l .loop .i)
+          few (n .narrow .ensures) (h .home-of .ensures) one (l .loop .inv .2) _ _ (l .loop .inv .4) (p .put .ensures),
     )
 
 returns : tie.Need-returns Inv-loop μ-loop
