@@ -1,0 +1,2 @@
+// The room over lent arrays: its five events, one in, one report out (document 01, "Standings and events").
+pub mod call;
