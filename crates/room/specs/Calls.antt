@@ -95,6 +95,7 @@ module _ (a : Arrays) (k : Sound a) where
       ranges = k .ranges;
       zeros = k .zeros;
       tickets = k .tickets;
+      codes = k .codes;
       index = k .index;
       waits = k .waits;
       words = k .words;
@@ -120,6 +121,7 @@ module _ (a : Arrays) (k : Sound a) where
         ranges = k .ranges;
         zeros = k .zeros;
         tickets = k .tickets;
+        codes = λ j. byEq j job (λ d. rw (ap (λ x. getD (set (a .standing) job 4) x 0) d ∙ here) (omega arith)) (λ d. rw (getD-set-other (a .standing) job j 4 0 d) (k .codes j));
         index = p .index;
         waits = λ j. byEq j job
             (λ d. p .waits j ∙ rw (eq-eqb j job d) (ap (λ x. eqb x 3) (sym (ap (λ x. getD (set (a .standing) job 4) x 0) d ∙ here))))

@@ -31,6 +31,7 @@ pub record Sound (a : Arrays) : Type 0 where
   pub ranges : Ranges (a .coefficients) (a .values) (a .slots .key)
   pub zeros : (k : ℕ) → a .measures * 8 ≤ k → getD (a .coefficients) k (pos 0) ≡ pos 0
   pub tickets : (k : ℕ) → getD (a .ticket) k 0 < 2 ^ 32
+  pub codes : (j : ℕ) → getD (a .standing) j 0 ≤ 4
   pub index : Index (a .slots) (a .ticket) (a .entry) (a .high) (a .low) (a .places) (a .lengths)
   -- those that stand waiting are in the index
   pub waits : (j : ℕ) → ltb 0 (getD (a .entry) j 0) ≡ eqb (getD (a .standing) j 0) 3

@@ -1,0 +1,59 @@
+-- Document 01's report for each case of the code's.
+use mathlib.Core.Path.{_≡_, refl, sym, ap, _∙_}
+use mathlib.Core.Bool.{Bool, true, false}
+use mathlib.Core.List.{List}
+use mathlib.Core.Option.{Option, none, some}
+use Prim.Native.Nat.{ℕ, _<_}
+use native.Mathlib.Omega.{arith}
+use lib.Dec.{eqb, ltb}
+use lib.IntN.{ℤ}
+use borrow.Author.Tests.{lt-ltb}
+use Rattle.rules.specs.Base.{if_then_else_}
+use Rattle.rules.specs.Search.{Waiter, Pair, found, evaluated}
+use Rattle.rules.specs.Step.{Outcome, done, enters, waits, on, back, accepted, refusal, jobOf}
+use Rattle.rules.specs.Step as rules
+use Rattle.condition.specs.Closing.{ClosedSlots}
+use Rattle.search.specs.Pairs.{waitersIn}
+use Rattle.search.specs.Answers.{answer, searched}
+use Rattle.search.specs.declared.Answer.{Answer}
+use Rattle.search.specs.declared.Answer.the-variants.{Calls, Nobody}
+use Rattle.room.specs.Calls.{FoundOne, found-one}
+use Rattle.room.specs.declared.report.Report.{Report}
+use Rattle.room.specs.declared.report.Report.the-variants.{Accepted, Refused}
+
+abbrev pub outcomeOf : ℕ → Outcome
+outcomeOf code = if eqb code 1 then enters else if eqb code 2 then waits else if eqb code 3 then on else if eqb code 4 then back else done
+
+abbrev pub jobIn : ℕ → Option ℕ
+jobIn job = if ltb job 32 then some job else none
+
+abbrev pub meaning : Report → rules.Report
+meaning (Accepted outcome job count) = accepted (outcomeOf outcome) (jobIn job) count
+meaning (Refused k) = refusal k
+
+abbrev pub searchReport : ℕ → Answer → Report
+searchReport outcome (Calls job count) = Accepted outcome job count
+searchReport outcome (Nobody count) = Accepted outcome 32 count
+
+-- ---- the answers of `searched`
+pub report-calls : (outcome : ℕ) {a : Answer} {job count : ℕ} → a ≡ Calls job count → Accepted outcome job count ≡ searchReport outcome a
+report-calls outcome e = ap (searchReport outcome) (sym e)
+
+pub report-nobody : (outcome : ℕ) {a : Answer} {count : ℕ} → a ≡ Nobody count → Accepted outcome 32 count ≡ searchReport outcome a
+report-nobody outcome e = ap (searchReport outcome) (sym e)
+
+-- ---- and they mean the rules' report of a search
+module _ (s : ClosedSlots) (ticket entry : List ℕ) (now : List ℤ) (outcome : ℕ) where
+  abbrev ws : List Waiter
+  ws = waitersIn s ticket entry
+
+  pub report-means : (r : Answer) → r ≡ searched now ws → meaning (searchReport outcome r) ≡ accepted (outcomeOf outcome) (jobOf (found now ws)) (evaluated now ws)
+  report-means (Calls job count) e =
+      let f = found-one s ticket entry now job count e in
+      rw (lt-ltb job 32 (f .small))
+      ((λ i. accepted (outcomeOf outcome) (some (sym (f .waiter-is) i .job)) (f .count-is i)) ∙ ap (λ g. accepted (outcomeOf outcome) (jobOf g) (evaluated now ws)) (sym (f .found-is)))
+  report-means (Nobody count) e = go (found now ws) refl e
+    where
+      go : (g : Option Pair) → found now ws ≡ g → Nobody count ≡ answer g (evaluated now ws) → accepted (outcomeOf outcome) none count ≡ accepted (outcomeOf outcome) (jobOf (found now ws)) (evaluated now ws)
+      go none h q = let c : count ≡ evaluated now ws = cc in (λ i. accepted (outcomeOf outcome) (jobOf (sym h i)) (c i))
+      go (some p) h q = let z : _≡_ {A = ℕ} 0 1 = cc in absurd (omega arith)
