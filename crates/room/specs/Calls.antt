@@ -89,7 +89,7 @@ module _ (a : Arrays) (k : Sound a) where
     answer-is = d;
     standing-is = ap (λ (u : Answer). calledStanding u (a .standing)) (sym e);
     sound = record {
-      sizes = record { coefficients = k .sizes .coefficients; standing = k .sizes .standing; ticket = k .sizes .ticket; slots = k .sizes .slots; high = k .sizes .high; low = k .sizes .low };
+      sizes = record { coefficients = k .sizes .coefficients; values = k .sizes .values; standing = k .sizes .standing; ticket = k .sizes .ticket; slots = k .sizes .slots; high = k .sizes .high; low = k .sizes .low };
       fit = k .fit;
       some-measure = k .some-measure;
       ranges = k .ranges;
@@ -115,7 +115,7 @@ module _ (a : Arrays) (k : Sound a) where
       answer-is = e;
       standing-is = refl;
       sound = record {
-        sizes = record { coefficients = k .sizes .coefficients; standing = length-set (a .standing) job 4 ∙ k .sizes .standing; ticket = k .sizes .ticket; slots = k .sizes .slots; high = k .sizes .high; low = k .sizes .low };
+        sizes = record { coefficients = k .sizes .coefficients; values = k .sizes .values; standing = length-set (a .standing) job 4 ∙ k .sizes .standing; ticket = k .sizes .ticket; slots = k .sizes .slots; high = k .sizes .high; low = k .sizes .low };
         fit = k .fit;
         some-measure = k .some-measure;
         ranges = k .ranges;

@@ -17,6 +17,7 @@ use Rattle.room.specs.Arrays.{Arrays, roomOf}
 -- the sizes of the arrays
 pub record Sizes (a : Arrays) : Type 0 where
   pub coefficients : length (a .coefficients) ≡ 128
+  pub values : length (a .values) ≡ 8
   pub standing : length (a .standing) ≡ 32
   pub ticket : length (a .ticket) ≡ 32
   pub slots : Sized (a .slots)

@@ -7,3 +7,4 @@ pub mod Stands
 pub mod Reports
 pub mod Steps
 pub mod Arrives
+pub mod Assigns

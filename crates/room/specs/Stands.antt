@@ -45,7 +45,7 @@ module _ (a : Arrays) (job code : ℕ) (small : job < 32) (sizes : Sizes a) wher
   -- neither waiting before nor now, nor called now
   pub sound-stand : Sound a → eqb (getD (a .standing) job 0) 3 ≡ false → eqb code 3 ≡ false → code ≤ 3 → Sound (restood a (set (a .standing) job code))
   sound-stand k was is most = record {
-    sizes = record { coefficients = k .sizes .coefficients; standing = length-set (a .standing) job code ∙ k .sizes .standing; ticket = k .sizes .ticket; slots = k .sizes .slots; high = k .sizes .high; low = k .sizes .low };
+    sizes = record { coefficients = k .sizes .coefficients; values = k .sizes .values; standing = length-set (a .standing) job code ∙ k .sizes .standing; ticket = k .sizes .ticket; slots = k .sizes .slots; high = k .sizes .high; low = k .sizes .low };
     fit = k .fit;
     some-measure = k .some-measure;
     ranges = k .ranges;
