@@ -61,7 +61,7 @@ module _ {A : Type 0} (d : A) where
       ∙ stored-in f n (set out p (f q)) (suc p) (suc q) k (omega arith) (rw (length-set out p (f q)) (omega arith)) ∙ ap f (next-place q k)
 
 -- ---- the key
-products-sum : (n : ℕ) (f : ℕ → ℤ) (p : ℕ) (l : List ℤ) → length l ≡ n → products (from f n p) l ≡ sum (λ k. f (p + k) *ℤ getD l k (pos 0)) n
+pub products-sum : (n : ℕ) (f : ℕ → ℤ) (p : ℕ) (l : List ℤ) → length l ≡ n → products (from f n p) l ≡ sum (λ k. f (p + k) *ℤ getD l k (pos 0)) n
 unfolding sum
 products-sum zero f p l e = refl
 products-sum (suc n) f p (x ∷ l) e =
@@ -78,7 +78,7 @@ key-closes g slot e = ap (λ z. z +ℤ getD (g .constant) slot (pos 0)) (sym (pr
 blocks : (n i j : ℕ) → i < j → i * n + n ≤ j * n
 blocks n i j h = rw (suc-mul i n) at (mul-le-mul h (le-refl n))
 
-from-same : {A : Type 0} (f g : ℕ → A) (n p : ℕ) → ((k : ℕ) → k < n → f (p + k) ≡ g (p + k)) → from f n p ≡ from g n p
+pub from-same : {A : Type 0} (f g : ℕ → A) (n p : ℕ) → ((k : ℕ) → k < n → f (p + k) ≡ g (p + k)) → from f n p ≡ from g n p
 from-same f g zero p e = refl
 from-same f g (suc n) p e =
     let first : f p ≡ g p = ap f (sym (add-zero p)) ∙ e 0 (omega arith) ∙ ap g (add-zero p) in

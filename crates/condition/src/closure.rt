@@ -27,7 +27,7 @@ fn local_part(coefficients: &[i64; 64], locals: &[i64; 4], slot: usize) -> i64
 }
 
 // The key of the atom in a slot; it stays within ±401,000,000.
-fn key_of(coefficients: &[i64; 64], locals: &[i64; 4], constant: &[i64; 16], slot: usize) -> i64
+pub fn key_of(coefficients: &[i64; 64], locals: &[i64; 4], constant: &[i64; 16], slot: usize) -> i64
     requires { ⌜ slot < 16 ⌝ ∗ ⌜ AllIn coefficientMost (now coefficients) ⌝ ∗ ⌜ AllIn valueMost (now locals) ⌝ ∗ ⌜ AllIn valueMost (now constant) ⌝ }
     ensures { λ r. ⌜ r ≡ keyAt (now (coefficients .entry)) (now (locals .entry)) (now (constant .entry)) slot ⌝ }
 {

@@ -2,6 +2,7 @@
 // identity, and closure.
 pub mod closure;
 pub mod compare;
+pub mod given;
 pub mod identity;
 pub mod measure;
 pub mod tag;

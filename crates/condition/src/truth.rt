@@ -7,7 +7,7 @@ ghost use Rattle.condition.specs.Closed.{atomAt, alternativeAt, conditio
 use crate::compare::compare;
 use crate::measure::measure_of;
 
-fn wide(x: u8) -> usize
+pub fn wide(x: u8) -> usize
     ensures { λ r. ⌜ r ≡ x ⌝ }
 {
     x as usize

@@ -8,3 +8,5 @@ pub mod Reports
 pub mod Steps
 pub mod Arrives
 pub mod Assigns
+pub mod Searches
+pub mod Leaves
