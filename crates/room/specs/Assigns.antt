@@ -72,6 +72,7 @@ module _ (a : Arrays) (k : Sound a) (job variable : ℕ) (value : ℤ) (small : 
     codes = k .codes;
     index = k .index;
     waits = k .waits;
+    apart = k .apart;
     words = k .words;
   }
 

@@ -4,13 +4,13 @@ use mathlib.Core.Logic.{_⊎_, inl, inr}
 use mathlib.Core.Bool.{Bool, true, false}
 use mathlib.Core.List.{List}
 use mathlib.Core.Option.{Option, none, some}
-use Prim.Native.Nat.{ℕ, _<_}
+use Prim.Native.Nat.{ℕ, _<_, _≤_}
 use native.Mathlib.Omega.{arith}
 use lib.Dec.{eqb, ltb}
 use lib.IntN.{ℤ}
 use lib.ListN.{getD, set, length-set}
 use lib.Seq.{getD-set-same, getD-set-other}
-use borrow.Author.Tests.{eq-eqb, ne-eqb}
+use borrow.Author.Tests.{eq-eqb, ne-eqb, eqb-true, lt-ltb}
 use Rattle.rules.specs.Base.{if_then_else_}
 use Rattle.rules.specs.Search.{Waiter, Pair, pairs, found, evaluated}
 use Rattle.rules.specs.Laws.In.{In}
@@ -98,6 +98,7 @@ module _ (a : Arrays) (k : Sound a) where
       codes = k .codes;
       index = k .index;
       waits = k .waits;
+      apart = k .apart;
       words = k .words;
     };
   }
@@ -126,6 +127,7 @@ module _ (a : Arrays) (k : Sound a) where
         waits = λ j. byEq j job
             (λ d. p .waits j ∙ rw (eq-eqb j job d) (ap (λ x. eqb x 3) (sym (ap (λ x. getD (set (a .standing) job 4) x 0) d ∙ here))))
             (λ d. p .waits j ∙ rw (ne-eqb j job d) (k .waits j ∙ ap (λ x. eqb x 3) (sym (getD-set-other (a .standing) job j 4 0 d))));
+        apart = λ i j g h. k .apart i j (held i g) (held j h);
         words = λ j h. byEq j job
             (λ d. subst (WordsOf (a .slots) (a .ticket) (a .high) (a .low)) (sym d) (λ i l. k .index .words job i called-waits l))
             (λ d. k .words j (sym (getD-set-other (a .standing) job j 4 0 d) ∙ h));
@@ -134,3 +136,9 @@ module _ (a : Arrays) (k : Sound a) where
       where
         here : getD (set (a .standing) job 4) job 0 ≡ 4
         here = getD-set-same (a .standing) job 4 0 (omega (arith, called-small, k .sizes .standing))
+
+        waited : 3 ≤ getD (a .standing) job 0
+        waited = omega (arith, eqb-true (getD (a .standing) job 0) 3 (sym (k .waits job) ∙ lt-ltb 0 (getD (a .entry) job 0) called-waits))
+
+        held : (j : ℕ) → 3 ≤ getD (set (a .standing) job 4) j 0 → 3 ≤ getD (a .standing) j 0
+        held j h = byEq j job (λ d. rw d waited) (λ d. rw (getD-set-other (a .standing) job j 4 0 d) at h)

@@ -36,6 +36,8 @@ pub record Sound (a : Arrays) : Type 0 where
   pub index : Index (a .slots) (a .ticket) (a .entry) (a .high) (a .low) (a .places) (a .lengths)
   -- those that stand waiting are in the index
   pub waits : (j : ℕ) → ltb 0 (getD (a .entry) j 0) ≡ eqb (getD (a .standing) j 0) 3
+  -- no two of those that wait or are called have one ticket
+  pub apart : (j k : ℕ) → 3 ≤ getD (a .standing) j 0 → 3 ≤ getD (a .standing) k 0 → getD (a .ticket) j 0 ≡ getD (a .ticket) k 0 → j ≡ k
   -- a called job keeps its rank words: it may be sent back
   pub words : (j : ℕ) → getD (a .standing) j 0 ≡ 4 → WordsOf (a .slots) (a .ticket) (a .high) (a .low) j
 

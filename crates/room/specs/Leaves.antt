@@ -9,28 +9,36 @@ use borrow.Author.Tests.{eq-eqb, ne-eqb}
 use lib.ListN.{getD, set}
 use Rattle.rules.specs.Room.{isInside, standing, stand, outside}
 use Rattle.rules.specs.Step.{leave, step}
-use Rattle.condition.specs.Closes.{conditionIn}
+use Rattle.condition.specs.Measures.{nowAt}
 use Rattle.search.specs.declared.Answer.{Answer}
 use Rattle.room.specs.Arrays.{Arrays, roomOf}
 use Rattle.room.specs.Kept.{Sizes, Sound}
 use Rattle.room.specs.Calls.{moved, CallsNext}
 use Rattle.room.specs.Stands.{restood, room-stand, sound-stand}
+use Rattle.room.specs.Tickets.{withNext, sound-next, calls-next}
 use Rattle.room.specs.Reports.{meaning, searchReport}
 use Rattle.room.specs.Steps.{Stepped}
-use Rattle.room.specs.Searches.{nowIn, search-room, search-report, search-others}
+use Rattle.room.specs.Searches.{search-room, search-report, search-others}
 use Rattle.room.specs.Assigns.{inside-test}
 use Rattle.room.specs.declared.report.Report.{Report}
 use Rattle.room.specs.declared.report.Report.the-variants.{Refused}
 
-module _ (a : Arrays) (k : Sound a) (job : ℕ) (small : job < 32) where
-  pub leaves-not : (getD (a .standing) job 0 ≡ 2 → ⊥) → Stepped a a (leave job) (Refused 5)
+module _ (a₀ : Arrays) (k₀ : Sound a₀) (job : ℕ) (small : job < 32) (next : ℕ) where
+  abbrev a : Arrays
+  a = withNext a₀ next
+
+  k : Sound a
+  k = sound-next a₀ next k₀
+
+  pub leaves-not : (getD (a₀ .standing) job 0 ≡ 2 → ⊥) → Stepped a a (leave job) (Refused 5)
   leaves-not d =
       let test = inside-test a k job small ∙ ne-eqb (getD (a .standing) job 0) 2 d in
       record { report = rw test refl; room = rw test refl; sound = k }
 
-  module _ (st entry places lengths : List ℕ) (r : Answer) (n : CallsNext a (nowIn a k) st entry places lengths r) where
-    pub leaves : getD (a .standing) job 0 ≡ 2 → {u : Report} → u ≡ searchReport 0 r → Stepped a (moved a (set st job 0) entry places lengths) (leave job) u
+  module _ (st entry places lengths : List ℕ) (r : Answer) (n₀ : CallsNext a₀ (nowAt (a₀ .coefficients) (a₀ .values)) st entry places lengths r) where
+    pub leaves : getD (a₀ .standing) job 0 ≡ 2 → {u : Report} → u ≡ searchReport 0 r → Stepped a (moved a (set st job 0) entry places lengths) (leave job) u
     leaves d {u} e =
+        let n = calls-next a₀ next (nowAt (a₀ .coefficients) (a₀ .values)) st entry places lengths r n₀ in
         let test = inside-test a k job small ∙ eq-eqb (getD (a .standing) job 0) 2 d in
         let b = moved a st entry places lengths in
         let other = search-others a k st entry places lengths r n job (ne-eqb (getD (a .standing) job 0) 3 (λ z. omega (arith, z))) in

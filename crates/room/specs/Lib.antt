@@ -3,6 +3,7 @@ pub mod Arrays
 pub mod Kept
 pub mod Standings
 pub mod Calls
+pub mod Tickets
 pub mod Stands
 pub mod Reports
 pub mod Steps

@@ -43,7 +43,7 @@ module _ (a : Arrays) (job code : ℕ) (small : job < 32) (sizes : Sizes a) wher
       λ i. record { measures = roomOf a .measures; values = a .values; standings = e i; nextTicket = a .next }
 
   -- neither waiting before nor now, nor called now
-  pub sound-stand : Sound a → eqb (getD (a .standing) job 0) 3 ≡ false → eqb code 3 ≡ false → code ≤ 3 → Sound (restood a (set (a .standing) job code))
+  pub sound-stand : Sound a → eqb (getD (a .standing) job 0) 3 ≡ false → eqb code 3 ≡ false → code ≤ 2 → Sound (restood a (set (a .standing) job code))
   sound-stand k was is most = record {
     sizes = record { coefficients = k .sizes .coefficients; values = k .sizes .values; standing = length-set (a .standing) job code ∙ k .sizes .standing; ticket = k .sizes .ticket; slots = k .sizes .slots; high = k .sizes .high; low = k .sizes .low };
     fit = k .fit;
@@ -56,10 +56,14 @@ module _ (a : Arrays) (job code : ℕ) (small : job < 32) (sizes : Sizes a) wher
     waits = λ j. byEq j job
         (λ d. k .waits j ∙ ap (λ x. eqb (getD (a .standing) x 0) 3) d ∙ was ∙ sym is ∙ ap (λ x. eqb x 3) (sym here) ∙ ap (λ x. eqb (getD (set (a .standing) job code) x 0) 3) (sym d))
         (λ d. k .waits j ∙ ap (λ x. eqb x 3) (sym (getD-set-other (a .standing) job j code 0 d)));
+    apart = λ i j g h. k .apart i j (held i g) (held j h);
     words = λ j h. byEq j job
         (λ d. absurd (omega (arith, sym here ∙ ap (λ x. getD (set (a .standing) job code) x 0) (sym d) ∙ h)))
         (λ d. k .words j (sym (getD-set-other (a .standing) job j code 0 d) ∙ h));
   }
+    where
+      held : (j : ℕ) → 3 ≤ getD (set (a .standing) job code) j 0 → 3 ≤ getD (a .standing) j 0
+      held j h = byEq j job (λ d. absurd (omega (arith, rw (ap (λ x. getD (set (a .standing) job code) x 0) d ∙ here) at h))) (λ d. rw (getD-set-other (a .standing) job j code 0 d) at h)
 
 -- ---- a search that called made the rules' room as `call` says
 module _ (a : Arrays) (now : List ℤ) (standing entry places lengths : List ℕ) (r : Answer) (sizes : Sizes a) (n : CallsNext a now standing entry places lengths r) where

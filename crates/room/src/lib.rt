@@ -3,3 +3,4 @@ pub mod call;
 pub mod report;
 pub mod arrive;
 pub mod assign;
+pub mod leave;
