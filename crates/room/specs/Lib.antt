@@ -11,3 +11,5 @@ pub mod Arrives
 pub mod Assigns
 pub mod Searches
 pub mod Leaves
+pub mod Occupied
+pub mod Admits

@@ -38,8 +38,8 @@ module _ (a : Arrays) (job code : ℕ) (small : job < 32) (sizes : Sizes a) wher
   room-stand entry places lengths =
       let b = moved a (set (a .standing) job code) entry places lengths in
       let e = standings-set a b job (standingOf code (conditionIn (a .slots) job) (getD (a .ticket) job 0)) small
-          (ap (λ x. standingOf x (conditionIn (a .slots) job) (getD (a .ticket) job 0)) here)
-          (λ k l d. ap (λ x. standingOf x (conditionIn (a .slots) k) (getD (a .ticket) k 0)) (getD-set-other (a .standing) job k code 0 d)) in
+      (ap (λ x. standingOf x (conditionIn (a .slots) job) (getD (a .ticket) job 0)) here)
+      (λ k l d. ap (λ x. standingOf x (conditionIn (a .slots) k) (getD (a .ticket) k 0)) (getD-set-other (a .standing) job k code 0 d)) in
       λ i. record { measures = roomOf a .measures; values = a .values; standings = e i; nextTicket = a .next }
 
   -- neither waiting before nor now, nor called now

@@ -1,6 +1,8 @@
 // The room over lent arrays: its five events, one in, one report out (document 01, "Standings and events").
-pub mod call;
-pub mod report;
+pub mod admit;
 pub mod arrive;
 pub mod assign;
+pub mod call;
 pub mod leave;
+pub mod occupied;
+pub mod report;
