@@ -44,9 +44,9 @@ same-wait : (m n : ℕ) → (0 < m → 0 < n) → (0 < n → 0 < m) → ltb 0 m 
 same-wait m n f g = byLt 0 m (λ p. lt-ltb 0 m p ∙ sym (lt-ltb 0 n (f p))) (λ p. byLt 0 n (λ q. absurd (omega (arith, g q))) (λ q. le-ltb 0 m p ∙ sym (le-ltb 0 n q)))
 
 module _ (s : ClosedSlots) (ticket high low entry entry′ places lengths places′ lengths′ : List ℕ) (job : ℕ) (q : Index s ticket entry high low places lengths) where
-  pub joined-index : (r : Joined) → ((k : ℕ) → Waits entry k → getD ticket k 0 ≡ getD ticket job 0 → ⊥) → WordsOf s ticket high low job → JoinedTo (conditionIn s) ticket entry entry′ job r →
+  pub invariant-kept-by-join : (r : Joined) → ((k : ℕ) → Waits entry k → getD ticket k 0 ≡ getD ticket job 0 → ⊥) → WordsOf s ticket high low job → JoinedTo (conditionIn s) ticket entry entry′ job r →
       FiledOf (rank high low) s (joinedLead r entry job) places′ lengths′ → JoinedIndex s ticket high low job entry entry′ places′ lengths′
-  joined-index r apart own t f = record {
+  invariant-kept-by-join r apart own t f = record {
     index = record {
       entries = t .entries;
       distinct = λ j k v w e. byEq j job (λ a. byEq k job (λ b. a ∙ sym b) (λ b. absurd (apart k (t .only k w b) (rw a at (sym e)))))
@@ -58,9 +58,9 @@ module _ (s : ClosedSlots) (ticket high low entry entry′ places lengths places
     waits = λ j. byEq j job (λ e. rw (e, eq-eqb job job refl) (lt-ltb 0 (getD entry′ job 0) (t .joins))) (λ d. rw (ne-eqb j job d) (same-wait (getD entry′ j 0) (getD entry j 0) (λ w. t .only j w d) (t .stays j)));
   }
 
-  pub parted-index : (r : Parted) → PartedFrom (conditionIn s) ticket entry entry′ job r →
+  pub invariant-kept-by-part : (r : Parted) → PartedFrom (conditionIn s) ticket entry entry′ job r →
       FiledOf (rank high low) s (partedLead r entry job) places′ lengths′ → PartedIndex s ticket high low job entry entry′ places′ lengths′
-  parted-index r t f = record {
+  invariant-kept-by-part r t f = record {
     index = record {
       entries = t .entries;
       distinct = λ j k v w e. q .distinct j k (t .only j v) (t .only k w) e;

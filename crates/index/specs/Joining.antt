@@ -20,7 +20,7 @@ use Rattle.index.specs.Nodes.{NodesPut, NodesCut}
 use Rattle.index.specs.Leads.{FiledOf, leads-more, leads-less}
 use Rattle.index.specs.Asked.{SmallMeasures, PutAsks, CutAsks, put-asks, cut-asks, fewer}
 use Rattle.index.specs.Index.{Index}
-use Rattle.index.specs.Changes.{WordsOf, JoinedIndex, lead-below, joined-index}
+use Rattle.index.specs.Changes.{WordsOf, JoinedIndex, lead-below, invariant-kept-by-join}
 
 module _ (s : ClosedSlots) (ticket high low entry entry′ l n : List ℕ) (job : ℕ) (q : Index s ticket entry high low l n) (out : getD entry job 0 ≡ 0) {r : Joined} (t : JoinedTo (conditionIn s) ticket entry entry′ job r) where
   new : isLead entry job ≡ false
@@ -33,10 +33,10 @@ module _ (s : ClosedSlots) (ticket high low entry entry′ l n : List ℕ) (job 
   module _ (apart : (k : ℕ) → Waits entry k → getD ticket k 0 ≡ getD ticket job 0 → ⊥) (own : WordsOf s ticket high low job) where
     pub alone-index : r ≡ Alone → (m k : List ℕ) → NodesPut (rank high low) (homeIn s) job (countIn s job) l n m k → JoinedIndex s ticket high low job entry entry′ m k
     alone-index e m k a =
-        joined-index s ticket high low entry entry′ l n m k job q Alone apart own (rw e at t) (leads-more (rank high low) s (isLead entry) l n (q .filed) job new m k a)
+        invariant-kept-by-join s ticket high low entry entry′ l n m k job q Alone apart own (rw e at t) (leads-more (rank high low) s (isLead entry) l n (q .filed) job new m k a)
 
     pub follows-index : r ≡ Follows → JoinedIndex s ticket high low job entry entry′ l n
-    follows-index e = joined-index s ticket high low entry entry′ l n l n job q Follows apart own (rw e at t) (q .filed)
+    follows-index e = invariant-kept-by-join s ticket high low entry entry′ l n l n job q Follows apart own (rw e at t) (q .filed)
 
   -- ---- before the lead of an entry
   module _ (old : ℕ) (e : r ≡ Leads old) where
@@ -62,4 +62,4 @@ module _ (s : ClosedSlots) (ticket high low entry entry′ l n : List ℕ) (job 
       pub leads-index : ((k : ℕ) → Waits entry k → getD ticket k 0 ≡ getD ticket job 0 → ⊥) → WordsOf s ticket high low job →
           (m′ k′ : List ℕ) → NodesPut (rank high low) (homeIn s) job (countIn s job) m k m′ k′ → JoinedIndex s ticket high low job entry entry′ m′ k′
       leads-index apart own m′ k′ b =
-          joined-index s ticket high low entry entry′ l n m′ k′ job q (Leads old) apart own after (leads-more (rank high low) s left m k filed-left job left-out m′ k′ b)
+          invariant-kept-by-join s ticket high low entry entry′ l n m′ k′ job q (Leads old) apart own after (leads-more (rank high low) s left m k filed-left job left-out m′ k′ b)

@@ -14,3 +14,4 @@ pub mod Parting
 pub mod Apart
 pub mod Rows
 pub mod Unique
+pub mod Elsewhere

@@ -19,12 +19,12 @@ use Rattle.index.specs.Nodes.{NodesPut, NodesCut}
 use Rattle.index.specs.Leads.{FiledOf, leads-same, leads-more, leads-less}
 use Rattle.index.specs.Asked.{SmallMeasures, PutAsks, CutAsks, put-asks, cut-asks, fewer}
 use Rattle.index.specs.Index.{Index}
-use Rattle.index.specs.Changes.{PartedIndex, lead-below, parted-index}
+use Rattle.index.specs.Changes.{PartedIndex, lead-below, invariant-kept-by-part}
 
 module _ (s : ClosedSlots) (ticket high low entry entry′ l n : List ℕ) (job : ℕ) (q : Index s ticket entry high low l n) {r : Parted} (t : PartedFrom (conditionIn s) ticket entry entry′ job r) where
   -- ---- from behind another, or as the last of its entry
   pub follower-index : r ≡ Follower → PartedIndex s ticket high low job entry entry′ l n
-  follower-index e = parted-index s ticket high low entry entry′ l n l n job q Follower (rw e at t) (q .filed)
+  follower-index e = invariant-kept-by-part s ticket high low entry entry′ l n l n job q Follower (rw e at t) (q .filed)
 
   job-asks : isLead entry job ≡ true → SmallMeasures s → CutAsks s l n job
   job-asks leads small = cut-asks (rank high low) s (isLead entry) l n (q .filed) (lead-below entry (q .size)) small job leads
@@ -35,7 +35,7 @@ module _ (s : ClosedSlots) (ticket high low entry entry′ l n : List ℕ) (job 
   pub ends-index : r ≡ Ends → (m k : List ℕ) → NodesCut (rank high low) (homeIn s) job (countIn s job) l n m k → PartedIndex s ticket high low job entry entry′ m k
   ends-index e m k a =
       let after : PartedFrom (conditionIn s) ticket entry entry′ job Ends = rw e at t in
-      parted-index s ticket high low entry entry′ l n m k job q Ends after (leads-less (rank high low) s (isLead entry) l n (q .filed) job (after .says .0) m k a)
+      invariant-kept-by-part s ticket high low entry entry′ l n m k job q Ends after (leads-less (rank high low) s (isLead entry) l n (q .filed) job (after .says .0) m k a)
 
   -- ---- with others behind it
   module _ (next : ℕ) (e : r ≡ Next next) where
@@ -59,7 +59,7 @@ module _ (s : ClosedSlots) (ticket high low entry entry′ l n : List ℕ) (job 
       next-asks small = put-asks (rank high low) s left m k filed-left (fewer (isLead entry) job (lead-below entry (q .size))) small next (after .says .1) left-out
 
       pub next-index : (m′ k′ : List ℕ) → NodesPut (rank high low) (homeIn s) next (countIn s next) m k m′ k′ → PartedIndex s ticket high low job entry entry′ m′ k′
-      next-index m′ k′ b = parted-index s ticket high low entry entry′ l n m′ k′ job q (Next next) after
+      next-index m′ k′ b = invariant-kept-by-part s ticket high low entry entry′ l n m′ k′ job q (Next next) after
           (leads-same (rank high low) s (λ j. if eqb j next then true else left j) m′ k′ (leads-more (rank high low) s left m k filed-left next left-out m′ k′ b) (partedLead (Next next) entry job) same)
         where
           same : (j : ℕ) → partedLead (Next next) entry job j ≡ (if eqb j next then true else left j)

@@ -13,3 +13,4 @@ pub mod Searches
 pub mod Leaves
 pub mod Occupied
 pub mod Admits
+pub mod Waits

@@ -6,3 +6,4 @@ pub mod call;
 pub mod leave;
 pub mod occupied;
 pub mod report;
+pub mod wait;

@@ -14,4 +14,5 @@ pub mod Stretched
 pub mod Prepared
 pub mod Whole
 pub mod Rules
+pub mod Alike
 pub mod Indexed

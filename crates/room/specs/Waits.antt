@@ -1,0 +1,60 @@
+-- Wait: a condition that is true changes nothing; a false one takes the next ticket, a search is made, and the job waits.
+use mathlib.Core.Path.{_≡_, refl, sym, ap, _∙_, subst}
+use mathlib.Core.Bool.{Bool, true, false}
+use mathlib.Core.List.{List}
+use mathlib.Core.Option.{Option, none, some}
+use Prim.Native.Nat.{ℕ, suc, _+_, _*_, _<_, _≤_}
+use native.Mathlib.Omega.{arith}
+use lib.Dec.{leb}
+use borrow.Author.Tests.{eq-eqb, ne-eqb, le-leb, lt-leb}
+use lib.IntN.{ℤ}
+use lib.ListN.{getD, set, length}
+use Rattle.rules.specs.Limits.{tickets, coefficientMost, valueMost}
+use Rattle.rules.specs.Condition.{Condition, Given, closure, conditionTrue}
+use Rattle.rules.specs.Room.{Room, isInside, standing, stand, now, giveTicket}
+use Rattle.rules.specs.Search.{Pair}
+use Rattle.rules.specs.Step.{Event, wait, call, step}
+use Rattle.condition.specs.Measures.{AllIn, nowAt}
+use Rattle.condition.specs.Closing.{ClosedSlots, GivenSlots, putClosed}
+use Rattle.condition.specs.Closes.{conditionIn, givenCondition}
+use Rattle.room.specs.Arrays.{Arrays, arrays, roomOf}
+use Rattle.room.specs.Kept.{Sound}
+use Rattle.room.specs.Steps.{Stepped}
+use Rattle.room.specs.Assigns.{inside-test}
+use Rattle.room.specs.Searches.{true-same}
+use Rattle.room.specs.declared.report.Report.{Report}
+use Rattle.room.specs.declared.report.Report.the-variants.{Accepted, Refused}
+
+-- a Wait's numbers keep to document 01's ranges, in a room with so many measures
+pub record GivenFit (measures : ℕ) (g : GivenSlots) : Type 0 where
+  pub measure : (k : ℕ) → getD (g .measure) k 0 < measures
+  pub operator : (k : ℕ) → getD (g .operator) k 0 ≤ 6
+  pub coefficients : AllIn coefficientMost (g .coefficients)
+  pub constant : AllIn valueMost (g .constant)
+  pub locals : AllIn valueMost (g .locals)
+  pub four : length (g .locals) ≡ 4
+
+module _ (a : Arrays) (k : Sound a) (job : ℕ) (small : job < 32) (g : GivenSlots) where
+  abbrev pub waitsFor : Condition
+  waitsFor = closure (g .locals) (givenCondition g)
+
+  abbrev pub waitEvent : Event
+  waitEvent = wait job (g .locals) (givenCondition g)
+
+  pub waits-not : (getD (a .standing) job 0 ≡ 2 → ⊥) → Stepped a a waitEvent (Refused 5)
+  waits-not d =
+      let test = inside-test a k job small ∙ ne-eqb (getD (a .standing) job 0) 2 d in
+      record { report = rw test refl; room = rw test refl; sound = k }
+
+  module _ (d : getD (a .standing) job 0 ≡ 2) {u : Bool} (holds : u ≡ conditionTrue (nowAt (a .coefficients) (a .values)) waitsFor) where
+    test : isInside (standing (roomOf a) job) ≡ true
+    test = inside-test a k job small ∙ eq-eqb (getD (a .standing) job 0) 2 d
+
+    true-is : conditionTrue (now (roomOf a)) waitsFor ≡ u
+    true-is = sym (holds ∙ true-same a k waitsFor)
+
+    pub waits-on : u ≡ true → Stepped a a waitEvent (Accepted 3 32 0)
+    waits-on t = record { report = rw (test, true-is ∙ t) refl; room = rw (test, true-is ∙ t) refl; sound = k }
+
+    pub waits-no-ticket : u ≡ false → tickets ≤ a .next → Stepped a a waitEvent (Refused 7)
+    waits-no-ticket t h = record { report = rw (test, true-is ∙ t, le-leb tickets (a .next) h) refl; room = rw (test, true-is ∙ t, le-leb tickets (a .next) h) refl; sound = k }
