@@ -1,6 +1,6 @@
-//! The proved readers and conditions, called from Rust: what crates/probes exports, each function
-//! declared once and wrapped in a safe one. `tools/test-probes` builds the archive and runs the
-//! tests.
+//! The proved readers, conditions and index, called from Rust: what crates/probes exports, each
+//! function declared once and wrapped in a safe one. `tools/test-probes` builds the archive and runs
+//! the tests.
 
 pub mod conditions;
 pub mod draw;
@@ -8,8 +8,12 @@ pub mod events;
 pub mod expected;
 pub mod extremes;
 pub mod farthest;
+pub mod index;
+pub mod stock;
 pub mod strings;
 pub mod trial;
+pub mod waiting;
+pub mod written;
 
 /// Measures times variables, and variables: the slots lent to an opening.
 pub const COEFFICIENTS: usize = 128;

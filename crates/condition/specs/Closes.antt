@@ -42,15 +42,15 @@ from-map h f g (suc n) p q e =
 
 -- what was stored from p on
 module _ {A : Type 0} (d : A) where
-  stored-before : (l out : List A) (p k : ℕ) → k < p → getD (sets out p l) k d ≡ getD out k d
+  pub stored-before : (l out : List A) (p k : ℕ) → k < p → getD (sets out p l) k d ≡ getD out k d
   stored-before [] out p k h = refl
   stored-before (a ∷ l) out p k h = stored-before l (set out p a) (suc p) k (omega arith) ∙ getD-set-other out p k a d (λ e. omega (arith, e))
 
-  stored-after : (l out : List A) (p k : ℕ) → p + length l ≤ k → getD (sets out p l) k d ≡ getD out k d
+  pub stored-after : (l out : List A) (p k : ℕ) → p + length l ≤ k → getD (sets out p l) k d ≡ getD out k d
   stored-after [] out p k h = refl
   stored-after (a ∷ l) out p k h = stored-after l (set out p a) (suc p) k (omega arith) ∙ getD-set-other out p k a d (λ e. omega (arith, e))
 
-  stored-in : (f : ℕ → A) (n : ℕ) (out : List A) (p q k : ℕ) → k < n → p + n ≤ length out → getD (sets out p (from f n q)) (p + k) d ≡ f (q + k)
+  pub stored-in : (f : ℕ → A) (n : ℕ) (out : List A) (p q k : ℕ) → k < n → p + n ≤ length out → getD (sets out p (from f n q)) (p + k) d ≡ f (q + k)
   stored-in f zero out p q k h l = absurd (omega arith)
   stored-in f (suc n) out p q zero h l =
       ap (λ m. getD (sets (set out p (f q)) (suc p) (from f n (suc q))) m d) (add-zero p)
@@ -151,7 +151,7 @@ module _ (job : ℕ) (small : job < 32) (s : ClosedSlots) (sized : Sized s) (g :
       key = kept (pos 0) (keyAt (g .coefficients) (g .locals) (g .constant)) 16 (s .key) slot l h i;
     }
 
-    alternative-kept : (i : ℕ) → i < 4 → alternativeIn s′ (j * 4 + i) ≡ alternativeIn s (j * 4 + i)
+    pub alternative-kept : (i : ℕ) → i < 4 → alternativeIn s′ (j * 4 + i) ≡ alternativeIn s (j * 4 + i)
     alternative-kept i h =
         ap (λ c. from (atomIn s′) (min c 4) ((j * 4 + i) * 4)) (kept 0 (λ k. getD (g .counts) k 0) 4 (s .atoms) (j * 4 + i) (omega arith) (omega arith))
         ∙ from-same (atomIn s′) (atomIn s) (min (getD (s .atoms) (j * 4 + i) 0) 4) ((j * 4 + i) * 4) (λ k l. atom-kept ((j * 4 + i) * 4 + k) (omega arith) (omega arith))

@@ -58,7 +58,7 @@ module _ (s s′ : ClosedSlots) (ticket ticket′ entry high low high′ low′ 
 
   -- ---- the nodes of another job
   module _ (j i : ℕ) (d : j ≡ job → ⊥) (p : i < 4) where
-    tag-kept : tagIn s′ (j * 4 + i) ≡ tagIn s (j * 4 + i)
+    pub tag-kept : tagIn s′ (j * 4 + i) ≡ tagIn s (j * 4 + i)
     tag-kept =
         tag-means (s′ .atoms) (s′ .measure) (s′ .operator) (s′ .key) operators′ (j * 4 + i) ∙ ap tag (same j i d p)
         ∙ sym (tag-means (s .atoms) (s .measure) (s .operator) (s .key) operators (j * 4 + i))

@@ -1,4 +1,5 @@
--- The readers' answers and tags as plain numbers.
+-- The answers of readers and searches, and tags, as plain numbers.
 pub mod Answers
 pub mod Heads
+pub mod Searches
 pub mod Tags

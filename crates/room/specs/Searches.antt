@@ -3,7 +3,7 @@ use mathlib.Core.Path.{_≡_, refl, sym, ap, _∙_}
 use mathlib.Core.Bool.{Bool, true, false}
 use mathlib.Core.List.{List}
 use mathlib.Core.Option.{Option}
-use Prim.Native.Nat.{ℕ, _<_}
+use Prim.Native.Nat.{ℕ, _<_, _≤_}
 use native.Mathlib.Omega.{arith}
 use lib.Dec.{eqb, ltb}
 use borrow.Author.Tests.{eqb-true, eq-eqb, lt-ltb}
@@ -16,6 +16,7 @@ use Rattle.rules.specs.Search.{Waiter, Pair, waiters, found, evaluated}
 use Rattle.rules.specs.Step.{accepted, call, jobOf}
 use Rattle.rules.specs.Laws.In.{true-not-false}
 use Rattle.condition.specs.Measures.{nowAt}
+use Rattle.nodes.specs.Counts.{byEq}
 use Rattle.given.specs.Nows.{now-same}
 use Rattle.given.specs.Same.{condition-same, found-same, evaluated-same}
 use Rattle.search.specs.Pairs.{waitersIn}
@@ -69,3 +70,13 @@ module _ (a : Arrays) (k : Sound a) where
         go (Calls j count) e d =
             ap (λ l. getD l job 0) d
             ∙ getD-set-other (a .standing) j job 4 0 (λ s. true-not-false (ap (λ x. eqb (getD (a .standing) x 0) 3) s ∙ sym (k .waits j) ∙ lt-ltb 0 (getD (a .entry) j 0) (called-waits a k nowIn j count e)) o)
+
+    -- who waits or is called did so before
+    pub search-held : (job : ℕ) → 3 ≤ getD standing job 0 → 3 ≤ getD (a .standing) job 0
+    search-held job h = go r (n .answer-is) (n .standing-is)
+      where
+        go : (u : Answer) → u ≡ searched nowIn (waitersIn (a .slots) (a .ticket) (a .entry)) → standing ≡ calledStanding u (a .standing) → 3 ≤ getD (a .standing) job 0
+        go (Nobody count) e d = omega (arith, h, ap (λ l. getD l job 0) d)
+        go (Calls j count) e d = byEq job j
+            (λ s. omega (arith, eqb-true (getD (a .standing) j 0) 3 (sym (k .waits j) ∙ lt-ltb 0 (getD (a .entry) j 0) (called-waits a k nowIn j count e)), ap (λ x. getD (a .standing) x 0) s))
+            (λ s. omega (arith, h, ap (λ l. getD l job 0) d, getD-set-other (a .standing) j job 4 0 s))

@@ -50,7 +50,7 @@ module _ (a : Arrays) (k : Sound a) (job : ℕ) (small : job < 32) (g : GivenSlo
     test : isInside (standing (roomOf a) job) ≡ true
     test = inside-test a k job small ∙ eq-eqb (getD (a .standing) job 0) 2 d
 
-    true-is : conditionTrue (now (roomOf a)) waitsFor ≡ u
+    pub true-is : conditionTrue (now (roomOf a)) waitsFor ≡ u
     true-is = sym (holds ∙ true-same a k waitsFor)
 
     pub waits-on : u ≡ true → Stepped a a waitEvent (Accepted 3 32 0)

@@ -14,11 +14,11 @@ ghost use Rattle.room.specs.Arrays.{arrays};
 ghost use Rattle.room.specs.Kept.{Sound};
 ghost use Rattle.room.specs.Steps.{Stepped};
 ghost use Rattle.room.specs.Waits.{GivenFit};
-use condition::closure::close;
-use condition::given::given_true;
 use crate::call::call_next;
 use crate::report::Report;
 use crate::report::searched;
+use condition::closure::close;
+use condition::given::given_true;
 use filing::write_words;
 use index::join;
 
