@@ -16,3 +16,6 @@ pub mod Admits
 pub mod Stored
 pub mod Waits
 pub mod Begins
+pub mod OpensRows
+pub mod OpensNobody
+pub mod Opens

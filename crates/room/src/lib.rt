@@ -1,9 +1,10 @@
-// The room over lent arrays: its five events, one in, one report out (document 01, "Standings and events").
+// The room over lent arrays: an opening, and the five events, one in, one report out (document 01, "Standings and events").
 pub mod admit;
 pub mod arrive;
 pub mod assign;
 pub mod call;
 pub mod leave;
 pub mod occupied;
+pub mod open;
 pub mod report;
 pub mod wait;
