@@ -16,6 +16,7 @@ use Rattle.room.specs.Arrays.{Arrays, standingOf, standingAt, roomOf}
 use Rattle.room.specs.Kept.{Sound}
 use Rattle.room.specs.Standings.{standing-is, code-door}
 use Rattle.room.specs.Stands.{restood, room-stand, sound-stand}
+use Rattle.room.specs.Reports.{accepted-not}
 use Rattle.room.specs.Steps.{Stepped, outside-is}
 use Rattle.room.specs.declared.report.Report.{Report}
 use Rattle.room.specs.declared.report.Report.the-variants.{Accepted, Refused}
@@ -45,5 +46,6 @@ module _ (a : Arrays) (k : Sound a) (job : ℕ) (small : job < 32) where
         report = rw (test ∙ t, t) refl;
         room = rw (test ∙ t, t) (room-stand a job 1 small (k .sizes) (a .entry) (a .places) (a .lengths) ∙ ap (λ s. stand job s (roomOf a)) (code-door (conditionIn (a .slots) job) (getD (a .ticket) job 0) 1 refl));
         sound = rw t (sound-stand a job 1 small (k .sizes) k (ne-eqb (getD (a .standing) job 0) 3 (λ e. omega (arith, e, eqb-true (getD (a .standing) job 0) 0 t))) refl (omega arith));
+        same = λ n e. absurd (accepted-not (rw t at e));
       })
-      (λ t. record { report = rw (test ∙ t, t) refl; room = rw (test ∙ t, t) refl; sound = rw t k })
+      (λ t. record { report = rw (test ∙ t, t) refl; room = rw (test ∙ t, t) refl; sound = rw t k; same = λ n e. rw t refl })

@@ -20,6 +20,7 @@ use Rattle.nodes.specs.Counts.{byEq}
 use Rattle.room.specs.Arrays.{Arrays, arrays, standingAt, roomOf}
 use Rattle.room.specs.Kept.{Sizes, Sound}
 use Rattle.room.specs.Standings.{standing-is}
+use Rattle.room.specs.Reports.{accepted-not}
 use Rattle.room.specs.Steps.{Stepped, inside-is}
 use Rattle.room.specs.declared.report.Report.{Report}
 use Rattle.room.specs.declared.report.Report.the-variants.{Accepted, Refused}
@@ -80,5 +81,5 @@ module _ (a : Arrays) (k : Sound a) (job variable : ℕ) (value : ℤ) (small : 
   assign-steps =
       let test = inside-test a k job small in
       byBool (eqb (getD (a .standing) job 0) 2)
-      (λ t. record { report = rw (test ∙ t, t) refl; room = rw (test ∙ t, t) refl; sound = rw t assigned })
-      (λ t. record { report = rw (test ∙ t, t) refl; room = rw (test ∙ t, t) refl; sound = rw t k })
+      (λ t. record { report = rw (test ∙ t, t) refl; room = rw (test ∙ t, t) refl; sound = rw t assigned; same = λ n e. absurd (accepted-not (rw t at e)) })
+      (λ t. record { report = rw (test ∙ t, t) refl; room = rw (test ∙ t, t) refl; sound = rw t k; same = λ n e. rw t refl })

@@ -32,7 +32,7 @@ use Rattle.room.specs.Kept.{Sizes, Sound}
 use Rattle.room.specs.Standings.{standings-set, code-waiting}
 use Rattle.room.specs.Calls.{moved, CallsNext}
 use Rattle.room.specs.Tickets.{withNext, sound-next, calls-next}
-use Rattle.room.specs.Reports.{meaning, searchReport}
+use Rattle.room.specs.Reports.{meaning, searchReport, search-not}
 use Rattle.room.specs.Steps.{Stepped}
 use Rattle.room.specs.Searches.{waitingIn, search-room, search-report, search-others, search-held}
 use Rattle.room.specs.Admits.{MayJoin}
@@ -184,4 +184,5 @@ module _ (a : Arrays) (k : Sound a) (job : ℕ) (small : job < 32) (g : GivenSlo
             report = rw (test, no, few) (ap meaning e ∙ search-report a k st entry places lengths r n 2);
             room = rw (test, no, few) new-room;
             sound = new-sound;
+            same = λ m o. absurd (search-not 2 r (sym e ∙ o));
           }

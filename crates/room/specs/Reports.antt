@@ -35,6 +35,14 @@ abbrev pub searchReport : ℕ → Answer → Report
 searchReport outcome (Calls job count) = Accepted outcome job count
 searchReport outcome (Nobody count) = Accepted outcome 32 count
 
+-- ---- an accepted event is not refused
+pub accepted-not : {outcome job count k : ℕ} → Accepted outcome job count ≡ Refused k → ⊥
+accepted-not e = let z : _≡_ {A = ℕ} 0 1 = cc in omega arith
+
+pub search-not : (outcome : ℕ) (r : Answer) {k : ℕ} → searchReport outcome r ≡ Refused k → ⊥
+search-not outcome (Calls job count) e = accepted-not e
+search-not outcome (Nobody count) e = accepted-not e
+
 -- ---- the answers of `searched`
 pub report-calls : (outcome : ℕ) {a : Answer} {job count : ℕ} → a ≡ Calls job count → Accepted outcome job count ≡ searchReport outcome a
 report-calls outcome e = ap (searchReport outcome) (sym e)

@@ -1,4 +1,4 @@
--- What an event leaves: the rules' report, the rules' room, and arrays that keep what they kept.
+-- What an event leaves: the rules' report, the rules' room, and arrays that keep what they kept; refused, the very arrays.
 use mathlib.Core.Path.{_≡_, refl, sym, ap, _∙_}
 use mathlib.Core.Bool.{Bool, true, false}
 use mathlib.Core.List.{List}
@@ -12,12 +12,15 @@ use Rattle.room.specs.Arrays.{Arrays, standingOf, roomOf}
 use Rattle.room.specs.Kept.{Sound}
 use Rattle.room.specs.Reports.{meaning}
 use Rattle.room.specs.declared.report.Report.{Report}
+use Rattle.room.specs.declared.report.Report.the-variants.{Refused}
 
 -- b is what an event makes of a, with this report
 pub record Stepped (a b : Arrays) (e : Event) (r : Report) : Type 0 where
   pub report : meaning r ≡ step (roomOf a) e .report
   pub room : roomOf b ≡ step (roomOf a) e .room
   pub sound : Sound b
+  -- a refused event leaves every number as it was
+  pub same : (k : ℕ) → r ≡ Refused k → b ≡ a
 
 -- ---- standings by their numbers
 module _ (c : Condition) (t : ℕ) where
