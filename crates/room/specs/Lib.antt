@@ -13,9 +13,6 @@ pub mod Searches
 pub mod Leaves
 pub mod Occupied
 pub mod Admits
-pub mod Stored
-pub mod Waits
-pub mod Begins
 pub mod OpensRows
 pub mod OpensNobody
 pub mod Opens

@@ -7,4 +7,3 @@ pub mod leave;
 pub mod occupied;
 pub mod open;
 pub mod report;
-pub mod wait;

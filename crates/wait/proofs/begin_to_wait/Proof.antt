@@ -2,10 +2,10 @@
 use borrow.Author.Needs.{needs}
 use mathlib.Core.Path.{sym, _∙_}
 use native.Mathlib.Omega.{arith}
 use Rattle.room.specs.Tickets.{sound-next}
-use Rattle.room.specs.Begins.{new-fit, new-index, may-join, begins}
-use Rattle.room.proofs.wait.begin_to_wait.Statement.{statement}
-use Rattle.room.proofs.wait.begin_to_wait.Tie as tie
+use Rattle.wait.specs.Begins.{new-fit, new-index, may-join, begins}
+use Rattle.wait.proofs.begin_to_wait.Statement.{statement}
+use Rattle.wait.proofs.begin_to_wait.Tie as tie
 
 call-requires : tie.Need-call-next-requires
 call-requires c κs = let s = c .before .before .before .before .before .before .before .before .before .before .before .before .before .before .before in sound-next _ 0 (s .pre .1 .1 .1 .0)

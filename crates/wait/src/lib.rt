@@ -10,17 +10,17 @@ ghost use Rattle.rules.specs.Step as rules;
 ghost use Rattle.condition.specs.Measures.{nowAt};
 ghost use Rattle.condition.specs.Closing.{closedSlots, givenSlots};
 ghost use Rattle.condition.specs.Closes.{givenCondition};
 ghost use Rattle.room.specs.Arrays.{arrays};
 ghost use Rattle.room.specs.Kept.{Sound};
 ghost use Rattle.room.specs.Steps.{Stepped};
-ghost use Rattle.room.specs.Waits.{GivenFit};
-use crate::call::call_next;
-use crate::report::Report;
-use crate::report::searched;
+ghost use Rattle.wait.specs.Waits.{GivenFit};
 use condition::closure::close;
 use condition::given::given_true;
 use filing::write_words;
 use index::join;
+use room::call::call_next;
+use room::report::Report;
+use room::report::searched;
 
 // A false condition, and a ticket left: the search is over those that wait before the job joins them.
 fn begin_to_wait(

@@ -27,19 +27,19 @@ use Rattle.index.specs.Changes.{WordsOf, JoinedIndex}
 use Rattle.index.specs.Elsewhere.{tag-kept, index-elsewhere}
 use Rattle.search.specs.Live.{SlotsFit}
 use Rattle.search.specs.declared.Answer.{Answer}
 use Rattle.room.specs.Arrays.{Arrays, arrays, standingAt, roomOf}
 use Rattle.room.specs.Kept.{Sizes, Sound}
 use Rattle.room.specs.Standings.{standings-set, code-waiting}
 use Rattle.room.specs.Calls.{moved, CallsNext}
 use Rattle.room.specs.Tickets.{withNext, sound-next, calls-next}
 use Rattle.room.specs.Reports.{meaning, searchReport, search-not}
 use Rattle.room.specs.Steps.{Stepped}
 use Rattle.room.specs.Searches.{waitingIn, search-room, search-report, search-others, search-held}
 use Rattle.room.specs.Admits.{MayJoin}
 use Rattle.room.specs.Assigns.{inside-test}
-use Rattle.room.specs.Stored.{stored-sized, stored-fit, stored-counts, stored-same, stored-conditions, words-long, words-here, words-elsewhere}
-use Rattle.room.specs.Waits.{GivenFit, waitsFor, waitEvent, true-is}
+use Rattle.wait.specs.Stored.{stored-sized, stored-fit, stored-counts, stored-same, stored-conditions, words-long, words-here, words-elsewhere}
+use Rattle.wait.specs.Waits.{GivenFit, waitsFor, waitEvent, true-is}
 use Rattle.room.specs.declared.report.Report.{Report}
 
 give-call : (f : Option Pair) (r : Room) → giveTicket (call f r) ≡ call f (giveTicket r)
 give-call none r = refl

@@ -2,9 +2,9 @@
 use borrow.Author.Needs.{needs}
 use mathlib.Core.Path.{sym, _∙_}
 use Rattle.condition.specs.Closing.{givenSlots}
-use Rattle.room.specs.Waits.{waits-not, waits-on, waits-no-ticket}
-use Rattle.room.proofs.wait.wait.Statement.{statement}
-use Rattle.room.proofs.wait.wait.Tie as tie
+use Rattle.wait.specs.Waits.{waits-not, waits-on, waits-no-ticket}
+use Rattle.wait.proofs.wait.Statement.{statement}
+use Rattle.wait.proofs.wait.Tie as tie
 
 given-requires : tie.Need-given-true-requires
 given-requires c κs =
