@@ -1,4 +1,5 @@
-// The room over lent arrays: an opening, and the five events, one in, one report out (document 01, "Standings and events").
+// The room over lent arrays: an opening, and four of the five events, one in, one report out (document 01, "Standings and events"). Wait has a
+// crate of its own.
 pub mod admit;
 pub mod arrive;
 pub mod assign;
