@@ -29,7 +29,7 @@ use Rattle.wire.specs.declared.head.Head.{Head}
 use Rattle.wire.specs.declared.head.Head.the-variants as head
 use Rattle.room.specs.Arrays.{Arrays, measureRow, roomOf}
 use Rattle.room.specs.Kept.{Sound, Kept}
-use Rattle.room.specs.Reports.{meaning}
+use Rattle.room.specs.Reports.{meaning, Plain, one-report}
 use Rattle.room.specs.Steps.{Stepped}
 use Rattle.room.specs.Stands.{restood}
 use Rattle.room.specs.Arrives.{arriveReport, arriveStanding, arrive-steps}
@@ -71,14 +71,44 @@ placed (report.Refused k) next = Refused k next
 abbrev pub waitHead : ℕ → ℕ → Head
 waitHead job next = head.Wait job next
 
+-- a refused event, and none left, leave every number as it was
+abbrev pub Unchanged : Arrays → Arrays → Taken → Type 0
+Unchanged a b (Accepted outcome job count next) = Unit {0}
+Unchanged a b (Refused k next) = b ≡ a
+Unchanged a b Nothing = b ≡ a
+
+-- the numbers of a report are those of its meaning, and no others
+abbrev pub PlainTaken : Taken → Type 0
+PlainTaken (Accepted outcome job count next) = Plain (report.Accepted outcome job count)
+PlainTaken (Refused k next) = Unit {0}
+PlainTaken Nothing = Unit {0}
+
 -- b is what the event at this place makes of a, with this report
 pub record Takes (a b : Arrays) (bytes : List ℕ) (at : ℕ) (r : Taken) : Type 0 where
   pub report : takenReport r ≡ take (roomOf a) (drop at bytes) .result .report
   pub room : roomOf b ≡ take (roomOf a) (drop at bytes) .result .room
   pub rest : LeftAt bytes (take (roomOf a) (drop at bytes) .rest) r
   pub kept : Kept b
-  -- a refused event leaves every number as it was
-  pub same : (n next : ℕ) → r ≡ Refused n next → b ≡ a
+  pub same : Unchanged a b r
+  pub plain : PlainTaken r
+
+-- two answers that the contract allows are the same: report and place are determined
+pub one-answer : (bytes rest : List ℕ) (r s : Taken) → PlainTaken r → PlainTaken s → takenReport r ≡ takenReport s → LeftAt bytes rest r → LeftAt bytes rest s → r ≡ s
+one-answer bytes rest (Accepted o j n p) (Accepted u k m q) a b e x y =
+    let w = one-report (report.Accepted o j n) (report.Accepted u k m) a b e in
+    let z : p ≡ q = place-is bytes rest (Accepted o j n p) (λ f. let v : _≡_ {A = ℕ} 0 1 = cc in omega arith) x ∙ sym (place-is bytes rest (Accepted u k m q) (λ f. let v : _≡_ {A = ℕ} 0 1 = cc in omega arith) y) in
+    λ i. placed (w i) (z i)
+one-answer bytes rest (Refused n p) (Refused m q) a b e x y =
+    let w = one-report (report.Refused n) (report.Refused m) tt tt e in
+    let z : p ≡ q = place-is bytes rest (Refused n p) (λ f. let v : _≡_ {A = ℕ} 0 1 = cc in omega arith) x ∙ sym (place-is bytes rest (Refused m q) (λ f. let v : _≡_ {A = ℕ} 0 1 = cc in omega arith) y) in
+    λ i. placed (w i) (z i)
+one-answer bytes rest Nothing Nothing a b e x y = refl
+one-answer bytes rest (Accepted o j n p) (Refused m q) a b e x y = let v : _≡_ {A = ℕ} 0 1 = cc in absurd (omega arith)
+one-answer bytes rest (Accepted o j n p) Nothing a b e x y = let v : _≡_ {A = ℕ} 0 1 = cc in absurd (omega arith)
+one-answer bytes rest (Refused n p) (Accepted u k m q) a b e x y = let v : _≡_ {A = ℕ} 0 1 = cc in absurd (omega arith)
+one-answer bytes rest (Refused n p) Nothing a b e x y = let v : _≡_ {A = ℕ} 0 1 = cc in absurd (omega arith)
+one-answer bytes rest Nothing (Accepted u k m q) a b e x y = let v : _≡_ {A = ℕ} 0 1 = cc in absurd (omega arith)
+one-answer bytes rest Nothing (Refused m q) a b e x y = let v : _≡_ {A = ℕ} 0 1 = cc in absurd (omega arith)
 
 -- ---- the answers of `with_place`
 pub placed-accepted : {w : Report} {outcome job count : ℕ} (next : ℕ) → w ≡ report.Accepted outcome job count → Accepted outcome job count next ≡ placed w next
@@ -95,9 +125,13 @@ placed-left : (bytes rest : List ℕ) (w : Report) (next : ℕ) → drop next by
 placed-left bytes rest (report.Accepted outcome job count) next e h = (e, h)
 placed-left bytes rest (report.Refused k) next e h = (e, h)
 
-placed-no : (w : Report) (next : ℕ) {n m : ℕ} → placed w next ≡ Refused n m → w ≡ report.Refused n
-placed-no (report.Accepted outcome job count) next e = let z : _≡_ {A = ℕ} 0 1 = cc in absurd (omega arith)
-placed-no (report.Refused k) next {n} e = let y : k ≡ n = cc in ap report.Refused y
+placed-same : (a b : Arrays) (w : Report) (next : ℕ) → ((k : ℕ) → w ≡ report.Refused k → b ≡ a) → Unchanged a b (placed w next)
+placed-same a b (report.Accepted outcome job count) next h = tt
+placed-same a b (report.Refused k) next h = h k refl
+
+placed-plain : (w : Report) (next : ℕ) → Plain w → PlainTaken (placed w next)
+placed-plain (report.Accepted outcome job count) next h = h
+placed-plain (report.Refused k) next h = tt
 
 -- ---- `take`, by what is read
 pub take-read : (r : Room) (left : List ℕ) {e : Event} {rest : List ℕ} → event (length (r .measures)) left ≡ read e rest → take r left ≡ record { result = step r e; rest = rest }
@@ -126,9 +160,9 @@ module _ (a : Arrays) (k : Kept a) (bytes : List ℕ) (at : ℕ) where
   kept-after : (b : Arrays) → Sound b → roomOf b ≡ take (roomOf a) left .result .room → Kept b
   kept-after b s e = record { sound = s; invariant = subst Invariant (sym e) (take-keeps (roomOf a) left (k .invariant)) }
 
-  pub by-take : {b : Arrays} {r : Taken} {t : tally.Taken} → take (roomOf a) left ≡ t → Sound b → takenReport r ≡ t .result .report → roomOf b ≡ t .result .room → LeftAt bytes (t .rest) r → ((n next : ℕ) → r ≡ Refused n next → b ≡ a) →
+  pub by-take : {b : Arrays} {r : Taken} {t : tally.Taken} → take (roomOf a) left ≡ t → Sound b → takenReport r ≡ t .result .report → roomOf b ≡ t .result .room → LeftAt bytes (t .rest) r → Unchanged a b r → PlainTaken r →
       Takes a b bytes at r
-  by-take {b} {r} {t} e s p q l o =
+  by-take {b} {r} {t} e s p q l o n =
       let room : roomOf b ≡ take (roomOf a) left .result .room = q ∙ ap (λ (u : tally.Taken). u .result .room) (sym e) in
       record {
         report = p ∙ ap (λ (u : tally.Taken). u .result .report) (sym e);
@@ -136,6 +170,7 @@ module _ (a : Arrays) (k : Kept a) (bytes : List ℕ) (at : ℕ) where
         rest = subst (λ (u : tally.Taken). LeftAt bytes (u .rest) r) (sym e) l;
         kept = kept-after b s room;
         same = o;
+        plain = n;
       }
 
   -- an event was read, and its function steps as the rules do
@@ -143,13 +178,13 @@ module _ (a : Arrays) (k : Kept a) (bytes : List ℕ) (at : ℕ) where
   by-step {b} {e} {w} {next} {r} s d h p =
       subst (Takes a b bytes at) (sym p)
       (by-take (take-read (roomOf a) left (ap (λ n. event n left) (measures-many a) ∙ d)) (s .sound) (placed-report w next ∙ s .report) (s .room) (placed-left bytes (drop next bytes) w next refl h)
-      (λ n m o. s .same n (placed-no w next o)))
+      (placed-same a b w next (s .same)) (placed-plain w next (s .plain)))
 
   -- no event was read
   pub by-refusal : {n : ℕ} → (left ≡ [] → ⊥) → event (a .measures) left ≡ refused n → Takes a a bytes at (Refused n at)
   by-refusal {n} some d =
       by-take (take-refused (roomOf a) left some (ap (λ m. event m left) (measures-many a) ∙ d)) (k .sound) refl refl
-      (refl, byLt at (length bytes) (λ h. omega (arith, h)) (λ h. absurd (some (drop-of-length-le bytes {i = at} h)))) (λ i m o. refl)
+      (refl, byLt at (length bytes) (λ h. omega (arith, h)) (λ h. absurd (some (drop-of-length-le bytes {i = at} h)))) refl tt
 
   pub event-fits : {e : Event} {rest : List ℕ} → event (a .measures) left ≡ read e rest → EventFits (a .measures) e
   event-fits {e} {rest} d = sound-event (a .measures) .gives left e rest d .0
@@ -160,7 +195,7 @@ module _ (a : Arrays) (k : Kept a) (bytes : List ℕ) (at : ℕ) where
     means e = subst (HeadMeans (a .measures) bytes left) (sym from ∙ e) (head-means (a .measures) bytes at)
 
     pub takes-nothing : h ≡ head.Nothing → Takes a a bytes at Nothing
-    takes-nothing e = by-take (take-nothing (roomOf a) left (means e)) (k .sound) refl refl refl (λ n m o. refl)
+    takes-nothing e = by-take (take-nothing (roomOf a) left (means e)) (k .sound) refl refl refl refl tt
 
     pub takes-refused : {n : ℕ} → h ≡ head.Refused n → Takes a a bytes at (Refused n at)
     takes-refused {n} e = by-refusal (no-left bytes left (λ z. let y : _≡_ {A = ℕ} 0 1 = cc in omega arith)) (means e)

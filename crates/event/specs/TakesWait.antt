@@ -117,5 +117,6 @@ module _ (a : Arrays) (k : Kept a) (bytes : List ℕ) (at job next : ℕ) (from 
             room = st .room ∙ ap (λ (x : rules.Step). x .room) same-step;
             sound = st .sound;
             same = st .same;
+            plain = st .plain;
           } in
           by-step a k bytes at stepped (reads ∙ ap (read read-event) rest-is) (omega (arith, t .place))

@@ -26,9 +26,9 @@ use Rattle.room.specs.Standings.{standing-is, code-door, code-inside, co
 use Rattle.room.specs.Calls.{moved, CallsNext}
 use Rattle.room.specs.Tickets.{withNext, sound-next, calls-next}
 use Rattle.room.specs.Stands.{restood, room-stand, sound-stand}
-use Rattle.room.specs.Reports.{meaning, searchReport, accepted-not, search-not}
+use Rattle.room.specs.Reports.{meaning, searchReport, accepted-not, search-not, Plain}
 use Rattle.room.specs.Steps.{Stepped}
-use Rattle.room.specs.Searches.{true-same, search-room, search-report, search-others}
+use Rattle.room.specs.Searches.{true-same, search-room, search-report, search-plain, search-others}
 use Rattle.room.specs.Occupied.{somebody, occupied-is}
 use Rattle.room.specs.declared.report.Report.{Report}
 use Rattle.room.specs.declared.report.Report.the-variants.{Accepted, Refused}
@@ -63,8 +63,8 @@ module _ (a₀ : Arrays) (k₀ : Sound a₀) (job : ℕ) (small : job < 32) (nex
   )
 
   -- ---- refused
-  by-step : {r : Report} {s : Step} (b : Arrays) → step (roomOf a) (admit job) ≡ s → meaning r ≡ s .report → roomOf b ≡ s .room → Sound b → ((m : ℕ) → r ≡ Refused m → b ≡ a) → Stepped a b (admit job) r
-  by-step b e p q h o = record { report = p ∙ ap (λ (s : Step). s .report) (sym e); room = q ∙ ap (λ (s : Step). s .room) (sym e); sound = h; same = o }
+  by-step : {r : Report} {s : Step} (b : Arrays) → step (roomOf a) (admit job) ≡ s → meaning r ≡ s .report → roomOf b ≡ s .room → Sound b → ((m : ℕ) → r ≡ Refused m → b ≡ a) → Plain r → Stepped a b (admit job) r
+  by-step b e p q h o l = record { report = p ∙ ap (λ (s : Step). s .report) (sym e); room = q ∙ ap (λ (s : Step). s .room) (sym e); sound = h; same = o; plain = l }
 
   neither : (n : ℕ) → n ≤ 4 → (n ≡ 1 → ⊥) → (n ≡ 4 → ⊥) → admitted job (standingOf n (conditionIn (a .slots) job) (getD (a .ticket) job 0)) (roomOf a) ≡ refuse (roomOf a) 5
   neither zero h d c = refl
@@ -75,7 +75,7 @@ module _ (a₀ : Arrays) (k₀ : Sound a₀) (job : ℕ) (small : job < 32) (nex
   neither (suc (suc (suc (suc (suc n))))) h d c = absurd (omega arith)
 
   pub admits-not : (code ≡ 1 → ⊥) → (code ≡ 4 → ⊥) → Stepped a a (admit job) (Refused 5)
-  admits-not d c = by-step a (ap (λ s. admitted job s (roomOf a)) (standing-is a job small) ∙ neither code (k .codes job) d c) refl refl k (λ m o. refl)
+  admits-not d c = by-step a (ap (λ s. admitted job s (roomOf a)) (standing-is a job small) ∙ neither code (k .codes job) d c) refl refl k (λ m o. refl) tt
 
   -- ---- somebody is inside, or not
   module _ {b : Bool} (is : b ≡ somebody (a₀ .standing) 32 0) where
@@ -86,13 +86,13 @@ module _ (a₀ : Arrays) (k₀ : Sound a₀) (job : ℕ) (small : job < 32) (nex
     free t = occupied-is a k ∙ sym is ∙ t
 
     pub admits-full : (code ≡ 1) ⊎ (code ≡ 4) → b ≡ true → Stepped a a (admit job) (Refused 6)
-    admits-full (inl d) t = by-step a (ap (λ s. admitted job s (roomOf a)) (is-door d) ∙ rw (full t) refl) refl refl k (λ m o. refl)
-    admits-full (inr d) t = by-step a (ap (λ s. admitted job s (roomOf a)) (is-called d) ∙ rw (full t) refl) refl refl k (λ m o. refl)
+    admits-full (inl d) t = by-step a (ap (λ s. admitted job s (roomOf a)) (is-door d) ∙ rw (full t) refl) refl refl k (λ m o. refl) tt
+    admits-full (inr d) t = by-step a (ap (λ s. admitted job s (roomOf a)) (is-called d) ∙ rw (full t) refl) refl refl k (λ m o. refl) tt
 
     pub admits-door : code ≡ 1 → b ≡ false → Stepped a (restood a (set (a₀ .standing) job 2)) (admit job) (Accepted 1 32 0)
     admits-door d t =
         let g = goes-inside (ne-eqb code 3 (λ e. omega (arith, e, d))) in
-        by-step (restood a (set (a .standing) job 2)) (ap (λ s. admitted job s (roomOf a)) (is-door d) ∙ rw (free t) refl) refl (g .0) (g .1) (λ m o. absurd (accepted-not o))
+        by-step (restood a (set (a .standing) job 2)) (ap (λ s. admitted job s (roomOf a)) (is-door d) ∙ rw (free t) refl) refl (g .0) (g .1) (λ m o. absurd (accepted-not o)) (omega arith, omega arith)
 
     -- ---- a called job
     module _ (d : code ≡ 4) (t : b ≡ false) {u : Bool} (holds : u ≡ conditionTrue (nowAt (a₀ .coefficients) (a₀ .values)) (conditionIn (a₀ .slots) job)) where
@@ -102,7 +102,7 @@ module _ (a₀ : Arrays) (k₀ : Sound a₀) (job : ℕ) (small : job < 32) (nex
       pub admits-called : u ≡ true → Stepped a (restood a (set (a₀ .standing) job 2)) (admit job) (Accepted 1 32 0)
       admits-called v =
           let g = goes-inside (ne-eqb code 3 (λ e. omega (arith, e, d))) in
-          by-step (restood a (set (a .standing) job 2)) (ap (λ s. admitted job s (roomOf a)) (is-called d) ∙ rw (free t, true-is ∙ v) refl) refl (g .0) (g .1) (λ m o. absurd (accepted-not o))
+          by-step (restood a (set (a .standing) job 2)) (ap (λ s. admitted job s (roomOf a)) (is-called d) ∙ rw (free t, true-is ∙ v) refl) refl (g .0) (g .1) (λ m o. absurd (accepted-not o)) (omega arith, omega arith)
 
       -- ---- sent back: a search was made, and the job joins the index again
       module _ (v : u ≡ false) (st entry places lengths : List ℕ) (r : Answer) (n₀ : CallsNext a₀ (nowAt (a₀ .coefficients) (a₀ .values)) st entry places lengths r) where
@@ -168,4 +168,4 @@ module _ (a₀ : Arrays) (k₀ : Sound a₀) (job : ℕ) (small : job < 32) (nex
               (room-stand b₁ job 3 small (n .sound .sizes) entry′ places′ lengths′
               ∙ ap (λ s. stand job s (roomOf b₁)) (code-waiting (conditionIn (a .slots) job) (getD (a .ticket) job 0) 3 refl)
               ∙ ap (stand job (waiting (conditionIn (a .slots) job) (getD (a .ticket) job 0))) (search-room a k st entry places lengths r n))
-              back-sound (λ m o. absurd (search-not 4 r (sym e ∙ o)))
+              back-sound (λ m o. absurd (search-not 4 r (sym e ∙ o))) (subst Plain (sym e) (search-plain a k st entry places lengths r n 4 (omega arith)))

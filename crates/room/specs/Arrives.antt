@@ -47,5 +47,6 @@ module _ (a : Arrays) (k : Sound a) (job : ℕ) (small : job < 32) where
         room = rw (test ∙ t, t) (room-stand a job 1 small (k .sizes) (a .entry) (a .places) (a .lengths) ∙ ap (λ s. stand job s (roomOf a)) (code-door (conditionIn (a .slots) job) (getD (a .ticket) job 0) 1 refl));
         sound = rw t (sound-stand a job 1 small (k .sizes) k (ne-eqb (getD (a .standing) job 0) 3 (λ e. omega (arith, e, eqb-true (getD (a .standing) job 0) 0 t))) refl (omega arith));
         same = λ n e. absurd (accepted-not (rw t at e));
+        plain = rw t (omega arith, omega arith);
       })
-      (λ t. record { report = rw (test ∙ t, t) refl; room = rw (test ∙ t, t) refl; sound = rw t k; same = λ n e. rw t refl })
+      (λ t. record { report = rw (test ∙ t, t) refl; room = rw (test ∙ t, t) refl; sound = rw t k; same = λ n e. rw t refl; plain = rw t tt })

@@ -81,5 +81,5 @@ module _ (a : Arrays) (k : Sound a) (job variable : ℕ) (value : ℤ) (small : 
   assign-steps =
       let test = inside-test a k job small in
       byBool (eqb (getD (a .standing) job 0) 2)
-      (λ t. record { report = rw (test ∙ t, t) refl; room = rw (test ∙ t, t) refl; sound = rw t assigned; same = λ n e. absurd (accepted-not (rw t at e)) })
-      (λ t. record { report = rw (test ∙ t, t) refl; room = rw (test ∙ t, t) refl; sound = rw t k; same = λ n e. rw t refl })
+      (λ t. record { report = rw (test ∙ t, t) refl; room = rw (test ∙ t, t) refl; sound = rw t assigned; same = λ n e. absurd (accepted-not (rw t at e)); plain = rw t (omega arith, omega arith) })
+      (λ t. record { report = rw (test ∙ t, t) refl; room = rw (test ∙ t, t) refl; sound = rw t k; same = λ n e. rw t refl; plain = rw t tt })

@@ -1,5 +1,5 @@
 -- Leave: inside to outside, then a search.
-use mathlib.Core.Path.{_≡_, refl, sym, ap, _∙_}
+use mathlib.Core.Path.{_≡_, refl, sym, ap, _∙_, subst}
 use mathlib.Core.Bool.{Bool, true, false}
 use mathlib.Core.List.{List}
 use Prim.Native.Nat.{ℕ, _<_}
@@ -16,9 +16,9 @@ use Rattle.room.specs.Kept.{Sizes, Sound}
 use Rattle.room.specs.Calls.{moved, CallsNext}
 use Rattle.room.specs.Stands.{restood, room-stand, sound-stand}
 use Rattle.room.specs.Tickets.{withNext, sound-next, calls-next}
-use Rattle.room.specs.Reports.{meaning, searchReport, search-not}
+use Rattle.room.specs.Reports.{meaning, searchReport, search-not, Plain}
 use Rattle.room.specs.Steps.{Stepped}
-use Rattle.room.specs.Searches.{search-room, search-report, search-others}
+use Rattle.room.specs.Searches.{search-room, search-report, search-plain, search-others}
 use Rattle.room.specs.Assigns.{inside-test}
 use Rattle.room.specs.declared.report.Report.{Report}
 use Rattle.room.specs.declared.report.Report.the-variants.{Refused}
@@ -33,7 +33,7 @@ module _ (a₀ : Arrays) (k₀ : Sound a₀) (job : ℕ) (small : job < 32) (nex
   pub leaves-not : (getD (a₀ .standing) job 0 ≡ 2 → ⊥) → Stepped a a (leave job) (Refused 5)
   leaves-not d =
       let test = inside-test a k job small ∙ ne-eqb (getD (a .standing) job 0) 2 d in
-      record { report = rw test refl; room = rw test refl; sound = k; same = λ m e. refl }
+      record { report = rw test refl; room = rw test refl; sound = k; same = λ m e. refl; plain = tt }
 
   module _ (st entry places lengths : List ℕ) (r : Answer) (n₀ : CallsNext a₀ (nowAt (a₀ .coefficients) (a₀ .values)) st entry places lengths r) where
     pub leaves : getD (a₀ .standing) job 0 ≡ 2 → {u : Report} → u ≡ searchReport 0 r → Stepped a (moved a (set st job 0) entry places lengths) (leave job) u
@@ -47,4 +47,5 @@ module _ (a₀ : Arrays) (k₀ : Sound a₀) (job : ℕ) (small : job < 32) (nex
           room = rw test (room-stand b job 0 small (n .sound .sizes) entry places lengths ∙ ap (stand job outside) (search-room a k st entry places lengths r n));
           sound = sound-stand b job 0 small (n .sound .sizes) (n .sound) (ne-eqb (getD st job 0) 3 (λ z. omega (arith, z, other))) refl (omega arith);
           same = λ m f. absurd (search-not 0 r (sym e ∙ f));
+          plain = subst Plain (sym e) (search-plain a k st entry places lengths r n 0 (omega arith));
         }

@@ -28,7 +28,7 @@ use Rattle.room.specs.Kept.{Sizes, Sound}
 use Rattle.room.specs.Standings.{waiters-same}
 use Rattle.room.specs.Calls.{calledStanding, moved, CallsNext, called-small, called-waits}
 use Rattle.room.specs.Stands.{call-room}
-use Rattle.room.specs.Reports.{meaning, outcomeOf, searchReport, report-means}
+use Rattle.room.specs.Reports.{meaning, outcomeOf, searchReport, report-means, report-plain, Plain}
 
 module _ (a : Arrays) (k : Sound a) where
   -- the values of the measures, as the code has them
@@ -60,6 +60,9 @@ module _ (a : Arrays) (k : Sound a) where
 
     pub search-report : (outcome : ℕ) → meaning (searchReport outcome r) ≡ accepted (outcomeOf outcome) (jobOf (found (now (roomOf a)) waitingIn)) (evaluated (now (roomOf a)) waitingIn)
     search-report outcome = report-means (a .slots) (a .ticket) (a .entry) nowIn outcome r (n .answer-is) ∙ (λ i. accepted (outcomeOf outcome) (jobOf (found-is i)) (evaluated-is i))
+
+    pub search-plain : (outcome : ℕ) → outcome ≤ 4 → Plain (searchReport outcome r)
+    search-plain outcome h = report-plain (a .slots) (a .ticket) (a .entry) nowIn outcome h r (n .answer-is)
 
     -- who did not wait stands as he stood
     pub search-others : (job : ℕ) → eqb (getD (a .standing) job 0) 3 ≡ false → getD standing job 0 ≡ getD (a .standing) job 0

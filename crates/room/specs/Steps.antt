@@ -10,7 +10,7 @@ use Rattle.rules.specs.Room.{Room, isInside, isOutside}
 use Rattle.rules.specs.Step.{Event, step}
 use Rattle.room.specs.Arrays.{Arrays, standingOf, roomOf}
 use Rattle.room.specs.Kept.{Sound}
-use Rattle.room.specs.Reports.{meaning}
+use Rattle.room.specs.Reports.{meaning, Plain}
 use Rattle.room.specs.declared.report.Report.{Report}
 use Rattle.room.specs.declared.report.Report.the-variants.{Refused}
 
@@ -21,6 +21,8 @@ pub record Stepped (a b : Arrays) (e : Event) (r : Report) : Type 0 where
   pub sound : Sound b
   -- a refused event leaves every number as it was
   pub same : (k : ℕ) → r ≡ Refused k → b ≡ a
+  -- its numbers are those of `meaning`: so there is one such report (`one-report`)
+  pub plain : Plain r
 
 -- ---- standings by their numbers
 module _ (c : Condition) (t : ℕ) where

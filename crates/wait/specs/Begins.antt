@@ -32,9 +32,9 @@ use Rattle.room.specs.Kept.{Sizes, Sound}
 use Rattle.room.specs.Standings.{standings-set, code-waiting}
 use Rattle.room.specs.Calls.{moved, CallsNext}
 use Rattle.room.specs.Tickets.{withNext, sound-next, calls-next}
-use Rattle.room.specs.Reports.{meaning, searchReport, search-not}
+use Rattle.room.specs.Reports.{meaning, searchReport, search-not, Plain}
 use Rattle.room.specs.Steps.{Stepped}
-use Rattle.room.specs.Searches.{waitingIn, search-room, search-report, search-others, search-held}
+use Rattle.room.specs.Searches.{waitingIn, search-room, search-report, search-plain, search-others, search-held}
 use Rattle.room.specs.Admits.{MayJoin}
 use Rattle.room.specs.Assigns.{inside-test}
 use Rattle.wait.specs.Stored.{stored-sized, stored-fit, stored-counts, stored-same, stored-conditions, words-long, words-here, words-elsewhere}
@@ -185,4 +185,5 @@ module _ (a : Arrays) (k : Sound a) (job : ℕ) (small : job < 32) (g : GivenSlo
             room = rw (test, no, few) new-room;
             sound = new-sound;
             same = λ m o. absurd (search-not 2 r (sym e ∙ o));
+            plain = subst Plain (sym e) (search-plain a k st entry places lengths r n 2 (omega arith));
           }

@@ -44,7 +44,7 @@ module _ (a : Arrays) (k : Sound a) (job : ℕ) (small : job < 32) (g : GivenSlo
   pub waits-not : (getD (a .standing) job 0 ≡ 2 → ⊥) → Stepped a a waitEvent (Refused 5)
   waits-not d =
       let test = inside-test a k job small ∙ ne-eqb (getD (a .standing) job 0) 2 d in
-      record { report = rw test refl; room = rw test refl; sound = k; same = λ m e. refl }
+      record { report = rw test refl; room = rw test refl; sound = k; same = λ m e. refl; plain = tt }
 
   module _ (d : getD (a .standing) job 0 ≡ 2) {u : Bool} (holds : u ≡ conditionTrue (nowAt (a .coefficients) (a .values)) waitsFor) where
     test : isInside (standing (roomOf a) job) ≡ true
@@ -54,7 +54,7 @@ module _ (a : Arrays) (k : Sound a) (job : ℕ) (small : job < 32) (g : GivenSlo
     true-is = sym (holds ∙ true-same a k waitsFor)
 
     pub waits-on : u ≡ true → Stepped a a waitEvent (Accepted 3 32 0)
-    waits-on t = record { report = rw (test, true-is ∙ t) refl; room = rw (test, true-is ∙ t) refl; sound = k; same = λ m e. refl }
+    waits-on t = record { report = rw (test, true-is ∙ t) refl; room = rw (test, true-is ∙ t) refl; sound = k; same = λ m e. refl; plain = (omega arith, omega arith) }
 
     pub waits-no-ticket : u ≡ false → tickets ≤ a .next → Stepped a a waitEvent (Refused 7)
-    waits-no-ticket t h = record { report = rw (test, true-is ∙ t, le-leb tickets (a .next) h) refl; room = rw (test, true-is ∙ t, le-leb tickets (a .next) h) refl; sound = k; same = λ m e. refl }
+    waits-no-ticket t h = record { report = rw (test, true-is ∙ t, le-leb tickets (a .next) h) refl; room = rw (test, true-is ∙ t, le-leb tickets (a .next) h) refl; sound = k; same = λ m e. refl; plain = tt }
