@@ -1,3 +1,4 @@
+-- `added` meets its contract: each count is added to by `plus`.
 use borrow.Author.Needs.{needs}
 use Rattle.tally.proofs.added.Statement.{statement}
 use Rattle.tally.proofs.added.Tie as tie

@@ -1,3 +1,4 @@
+-- `plus` meets its contract: a count at the ceiling or above it stays, one that would pass it becomes the ceiling, and every other is the sum.
 use borrow.Author.Needs.{needs}
 use Rattle.tally.proofs.plus.Statement.{statement}
 use Rattle.tally.proofs.plus.Tie as tie
