@@ -25,7 +25,7 @@ pub record Holds (rank : ℕ → ℕ) (p : ℕ → Bool) (places : List ℕ) (n 
   pub has : (z : ℕ) → count places n z ≡ bit (p z)
   pub apart : (y z : ℕ) → p y ≡ true → p z ≡ true → rank y ≡ rank z → y ≡ z
 
-bit-most : (t : Bool) → bit t ≤ 1
+pub bit-most : (t : Bool) → bit t ≤ 1
 bit-most true = omega arith
 bit-most false = omega arith
 

@@ -20,7 +20,7 @@ use Rattle.homes.specs.Regions.{region}
 use Rattle.walk.specs.declared.Walk.{Walk}
 use Rattle.walk.specs.Walks.{walked}
 use Rattle.index.specs.Across.{at-most-all}
-use Rattle.search.specs.Contents.{passes, sorted-apart, part-from, in-from}
+use Rattle.search.specs.Contents.{bit-most, passes, sorted-apart, part-from, in-from}
 use Rattle.search.specs.Stretches.{lists, lists-long}
 use Rattle.search.specs.Runs.{nodesOf}
 use Rattle.search.specs.Lookups.{equalities, equalities-most}
@@ -58,10 +58,6 @@ module _ (rank : ℕ → ℕ) (high places lengths : List ℕ) (measures : ℕ) 
 
   pub untagged-told : (test : ℕ → Bool) {w : Walk} → w ≡ walked test (take (getD lengths 33 0 - 0) (drop 0 (take 128 (drop 4224 places)))) → w ≡ walked test (nodesOf (region places 33) (getD lengths 33 0))
   untagged-told test e = (rw (sub-zero (getD lengths 33 0)) at e) ∙ ap (walked test) untagged-part
-
-bit-most : (t : Bool) → bit t ≤ 1
-bit-most true = omega arith
-bit-most false = omega arith
 
 module _ (q : Searchable) where
   few : (h : ℕ) → h < 34 → getD (q .lengths) h 0 ≤ 128

@@ -54,9 +54,6 @@ module _ (q : Searchable) where
       let w : Waits (q .entry) j = omega (arith, eqb-true (getD (q .entry) j 0) (j + 1) t) in
       (waits-below (q .entry) 32 j (omega (arith, q .index .size)) w, w)
 
-  older : ℕ → Waiter → Bool
-  older j v = identical (v .condition) (conditionIn (q .slots) j) && ltb (v .ticket) (getD (q .ticket) j 0)
-
   nobody-older : (j : ℕ) → 0 < getD (q .entry) j 0 → isLead (q .entry) j ≡ true → follows waiting (at j) ≡ true → ⊥
   nobody-older j w t f =
       let a = any-some (λ (v : Waiter). identical (v .condition) (at j .condition) && ltb (v .ticket) (at j .ticket)) waiting f in
