@@ -1,0 +1,5 @@
+-- The host's library: what its numbers mean, and that its calls keep the three demands.
+pub mod Rooms
+pub mod Openings
+pub mod Reports
+pub mod Tallies
