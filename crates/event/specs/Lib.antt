@@ -1,4 +1,3 @@
 -- An event from bytes over the room's arrays is the rules' `take`.
 pub mod Takes
 pub mod TakesWait
-pub mod Demands

@@ -3,3 +3,6 @@ pub mod Rooms
 pub mod Openings
 pub mod Reports
 pub mod Tallies
+pub mod Looks
+pub mod Events
+pub mod Demands

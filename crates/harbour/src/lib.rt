@@ -4,11 +4,12 @@ ghost use mathlib.Core.Path.{_≡_};
 ghost use Rattle.room.specs.Kept.{Kept};
 ghost use Rattle.harbour.specs.Rooms.{arraysOf};
 ghost use Rattle.harbour.specs.Openings.{OpensRoom};
-ghost use Rattle.harbour.specs.Reports.{Reports};
+ghost use Rattle.harbour.specs.Events.{EventTaken};
 ghost use Rattle.harbour.specs.Tallies.{notedTally};
 use tally::Tally;
 
 pub mod arrays;
+pub mod looks;
 pub mod report;
 
 use arrays::take_event;
@@ -75,8 +76,7 @@ pub extern "C" fn harbour_open(room: &mut Room, bytes: &[u8]) -> Opened
 #[no_mangle]
 pub extern "C" fn harbour_event(tally: &mut Tally, room: &mut Room, bytes: &[u8]) -> Report
     requires { ⌜ Kept (arraysOf (now room)) ⌝ }
-    ensures { λ r. ⌜ Reports (arraysOf (now (room .entry))) (arraysOf (now (room .exit))) (now (bytes .entry)) r
-        × (now (tally .exit) ≡ notedTally (now (tally .entry)) r) ⌝ }
+    ensures { λ r. ⌜ EventTaken (now (room .entry)) (now (room .exit)) (now (tally .entry)) (now (tally .exit)) (now (bytes .entry)) r ⌝ }
 {
     let report = take_event(
         &room.coefficients,

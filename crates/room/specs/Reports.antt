@@ -52,7 +52,7 @@ abbrev pub jobCode : Option ℕ → ℕ
 jobCode (some job) = job
 jobCode none = 32
 
-outcome-coded : (code : ℕ) → code ≤ 4 → outcomeCode (outcomeOf code) ≡ code
+pub outcome-coded : (code : ℕ) → code ≤ 4 → outcomeCode (outcomeOf code) ≡ code
 outcome-coded zero h = refl
 outcome-coded (suc zero) h = refl
 outcome-coded (suc (suc zero)) h = refl
@@ -60,7 +60,7 @@ outcome-coded (suc (suc (suc zero))) h = refl
 outcome-coded (suc (suc (suc (suc zero)))) h = refl
 outcome-coded (suc (suc (suc (suc (suc n))))) h = absurd (omega arith)
 
-job-coded : (job : ℕ) → job ≤ 32 → jobCode (jobIn job) ≡ job
+pub job-coded : (job : ℕ) → job ≤ 32 → jobCode (jobIn job) ≡ job
 job-coded job h = byLt job 32 (λ l. rw (lt-ltb job 32 l) refl) (λ l. rw (le-ltb job 32 l) (omega arith))
 
 outcome-in : rules.Report → Outcome

@@ -43,6 +43,7 @@ use Rattle.room.specs.Kept.{Kept}
 use Rattle.harbour.specs.Rooms.{arraysOf}
 use Rattle.harbour.specs.Reports.{Reports}
 use Rattle.harbour.specs.Tallies.{notedTally}
+use Rattle.harbour.specs.Events.{event-taken}
 use Rattle.tally.specs.declared.Tally.{Tally}
 use Rattle.harbour.specs.declared.Room.{Room}
 use Rattle.harbour.specs.declared.report.Report.{Report}
@@ -177,7 +178,7 @@ module _ {M : Type 1} (𝓤 : URA M) (H : Heap 𝓤) (A : Atoms 𝓤) (W : Given
   exits r v ws w e e₂ =
       qed W (‵ tok-tally ∷ ‵ tok-room ∷ raw rest ∷ ‵ (fres (a .0 .name) (T.the-row .coded .code w)) ∷ ‵ (fres (a .1 .0 .name) (S.the-row .coded .code (room′ ws))) ∷ ‵ rest-last ∷ ‵ (R.the-row .own r (v ∷ [])) ∷ []) ∵
       suffices ! _ (ends-at 𝓤 H A harbour-event.ended stayed (harbour-event.clauses 𝓤 H A mem run) W bound v r (w, (room′ ws, restOn lots Rest ws)) (handed-fit κs (harbour-event.ended .signature .params) (harbour-event.ended .kept) a (w, (room′ ws, restOn lots Rest ws)))) $
-      says ! (e, e₂) $ move ! (1 ∷ 2 ∷ []) $ join ! $ move ! (1 ∷ 0 ∷ []) $ join ! $ frame ! $ move ! (1 ∷ 2 ∷ []) $ fjoin ! $ move ! (1 ∷ 0 ∷ []) $ fjoin ! $ done !
+      says ! (event-taken e e₂) $ move ! (1 ∷ 2 ∷ []) $ join ! $ move ! (1 ∷ 0 ∷ []) $ join ! $ frame ! $ move ! (1 ∷ 2 ∷ []) $ fjoin ! $ move ! (1 ∷ 0 ∷ []) $ fjoin ! $ done !
 
   module _ (C : Calls 𝓤 H) (Λ : Loops 𝓤 H) (fm : FmC 𝓤 H (W .laws) C) (known-core : Triple 𝓤 (C #take-event) (Core 𝓤 H A mem run)) (known-note : Triple 𝓤 (C #note) (Note 𝓤 H A mem run)) where
     walk : Kept (arraysOf (a .1 .0 .now)) → Is (ShrSlice (named 2) (κs .1 .1 .0) u8) (a .1 .1 .0) (slice-vals (a .1 .1 .0)) →
