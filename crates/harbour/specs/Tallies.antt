@@ -7,7 +7,7 @@ use borrow.Author.Tests.{lt-ltb, le-ltb, ne-eqb}
 use Rattle.rules.specs.Tally.{Tally as Counts, note, ones, backs}
 use Rattle.rules.specs.Laws.In.{byBool}
 use Rattle.room.specs.Reports.{outcomeOf, jobIn}
-use Rattle.tally.specs.Added.{addedTally, tallyOf}
+use Rattle.tally.specs.Added.{addedTally, tallyOf, added-is-note}
 use Rattle.tally.specs.declared.Tally.{Tally}
 use Rattle.harbour.specs.Reports.{reportOf}
 use Rattle.harbour.specs.declared.report.Report.{Report}
@@ -38,4 +38,4 @@ none-noted t r h = rw (le-ltb (r .outcome) 5 (omega (arith, h))) (byBool (eqb (r
 
 pub one-noted : (t : Tally) (r : Report) {x : Tally} {called back : ℕ} → r .outcome ≤ 4 → called ≡ ones (jobIn (r .job)) → back ≡ backs (outcomeOf (r .outcome)) → x ≡ addedTally t called (r .count) back →
     x ≡ notedTally t r
-one-noted t r h c b e = e ∙ (λ i. addedTally t (c i) (r .count) (b i)) ∙ rw (lt-ltb (r .outcome) 5 (omega (arith, h))) refl
+one-noted t r h c b e = e ∙ (λ i. addedTally t (c i) (r .count) (b i)) ∙ rw (lt-ltb (r .outcome) 5 (omega (arith, h))) (ap countsOf (added-is-note t (outcomeOf (r .outcome)) (jobIn (r .job)) (r .count)))

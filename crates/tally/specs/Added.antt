@@ -2,7 +2,7 @@
 use Prim.Native.Nat.{ℕ}
 use mathlib.Core.Path.{_≡_, refl}
 use mathlib.Core.Option.{Option}
-use Rattle.rules.specs.Step.{Outcome, accepted, refusal, nothing}
+use Rattle.rules.specs.Step.{Outcome, accepted}
 use Rattle.rules.specs.Tally.{Tally as Counts, plus, ones, backs, note}
 use Rattle.tally.specs.declared.Tally.{Tally}
 
@@ -24,9 +24,3 @@ tallyOf-one s t e = λ i. record { events = e i .events; calls = e i .calls; eva
 
 pub added-is-note : (t : Tally) (o : Outcome) (called : Option ℕ) (count : ℕ) → tallyOf (addedTally t (ones called) count (backs o)) ≡ note (accepted o called count) (tallyOf t)
 added-is-note t o called count = refl
-
-pub refusal-counts-nothing : (t : Tally) (n : ℕ) → note (refusal n) (tallyOf t) ≡ tallyOf t
-refusal-counts-nothing t n = refl
-
-pub nothing-counts-nothing : (t : Tally) → note nothing (tallyOf t) ≡ tallyOf t
-nothing-counts-nothing t = refl

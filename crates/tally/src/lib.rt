@@ -35,10 +35,3 @@ pub fn added(tally: Tally, calls: u64, evaluated: u64, sent_back: u64) -> Tally
         sent_back: plus(tally.sent_back, sent_back),
     }
 }
-
-// Thin: a walk by hand proves it.
-pub fn note(tally: &mut Tally, calls: u64, evaluated: u64, sent_back: u64)
-    ensures { λ _. ⌜ now (tally .exit) ≡ addedTally (now (tally .entry)) calls evaluated «sent_back» ⌝ }
-{
-    *tally = added(*tally, calls, evaluated, sent_back);
-}
