@@ -1,13 +1,14 @@
 -- `noted` meets its contract: a refused event and none left count nothing, an accepted one is added.
 use borrow.Author.Needs.{needs}
+use native.Mathlib.Omega.{arith}
 use Rattle.harbour.specs.Tallies.{none-noted, one-noted}
 use Rattle.harbour.proofs.report.noted.Statement.{statement}
 use Rattle.harbour.proofs.report.noted.Tie as tie
 
-ruleset laws = (needs, none-noted, one-noted)
+ruleset laws = (needs, one-noted)
 
 none : tie.Need-returns
-none c = search laws
+none c = none-noted (c .before .before .args .tally) (c .before .before .args .report) (omega (arith, c .if1 .taken))
 
 calls-requires : tie.Need-calls-requires
 calls-requires c κs = search needs
