@@ -8,5 +8,4 @@ pub mod Tags
 pub mod Identity
 pub mod Closing
 pub mod Closes
-pub mod Givens
 pub mod Board

@@ -2,7 +2,6 @@
 // identity, and closure.
 pub mod closure;
 pub mod compare;
-pub mod given;
 pub mod identity;
 pub mod measure;
 pub mod tag;

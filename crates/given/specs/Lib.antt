@@ -1,4 +1,5 @@
 -- A Wait's slots hold the condition that was read, and the room's measures are those of the rules.
+pub mod Givens
 pub mod Slots
 pub mod Atoms
 pub mod Back

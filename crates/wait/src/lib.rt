@@ -15,7 +15,7 @@ ghost use Rattle.room.specs.Kept.{Sound};
 ghost use Rattle.room.specs.Steps.{Stepped};
 ghost use Rattle.wait.specs.Waits.{GivenFit};
 use condition::closure::close;
-use condition::given::given_true;
+use given::given_true;
 use filing::write_words;
 use index::join;
 use room::call::call_next;

@@ -7,13 +7,13 @@ use native.Mathlib.Nat.{zero-add}
 use borrow.Author.Needs.{needs}
 use native.Mathlib.Omega.{arith}
 use Rattle.rules.specs.Condition.{atomTrue, alternativeTrue, conditionTrue, closure}
 use Rattle.condition.specs.Along.{allLeft, anyLeft, all-more, all-stop, all-done, any-more, any-stop, any-done}
 use Rattle.condition.specs.Measures.{nowAt}
 use Rattle.condition.specs.Closing.{givenSlots}
 use Rattle.condition.specs.Closes.{givenCondition}
-use Rattle.condition.specs.Givens.{closedAt, closedAlternative, given-alternative-start, given-condition-start}
-use Rattle.condition.proofs.given.given_true.Statement.{statement}
-use Rattle.condition.proofs.given.given_true.Tie as tie
+use Rattle.given.specs.Givens.{closedAt, closedAlternative, given-alternative-start, given-condition-start}
+use Rattle.given.proofs.given_true.Statement.{statement}
+use Rattle.given.proofs.given_true.Tie as tie
 
 ruleset laws = (needs, given-alternative-start, given-condition-start)
 

@@ -4,12 +4,12 @@ use borrow.Author.Needs.{needs}
 use lib.IntN.{pos}
 use lib.ListN.{getD, length}
 use Rattle.integers.specs.Machine.{back}
 use Rattle.condition.specs.Compare.{compared}
 use Rattle.condition.specs.Measures.{nowAt}
 use Rattle.condition.specs.Closing.{givenSlots}
 use Rattle.condition.specs.Closes.{key-closes}
-use Rattle.condition.proofs.given.given_atom_true.Statement.{statement}
-use Rattle.condition.proofs.given.given_atom_true.Tie as tie
+use Rattle.given.proofs.given_atom_true.Statement.{statement}
+use Rattle.given.proofs.given_atom_true.Tie as tie
 
 returns : tie.Need-returns
 returns c =
