@@ -11,9 +11,8 @@ use lib.ListN.{getD, set, length, length-set}
 use lib.Seq.{sets, getD-set-same, getD-set-other}
 use Rattle.rules.specs.Condition.{Given, Atom, Condition, products, close, closure}
 use Rattle.integers.specs.Sums.{sum, sum-front}
-use Rattle.condition.specs.Measures.{term}
 use Rattle.condition.specs.Closed.{from, atomAt, alternativeAt, conditionAt}
-use Rattle.condition.specs.Closing.{keyAt, keysFrom, firstOf, from-many, ClosedSlots, closedSlots, GivenSlots, putClosed}
+use Rattle.condition.specs.Closing.{keyAt, from-many, ClosedSlots, GivenSlots, putClosed}
 
 -- ---- a Wait's condition, as it stands in its slots
 abbrev pub givenAt : GivenSlots → ℕ → Given

@@ -1,10 +1,10 @@
 -- The value of a measure in lent arrays: the coefficients of measure m stand from slot 8 * m on.
-use mathlib.Core.Path.{_≡_, refl, sym, ap, _∙_}
+use mathlib.Core.Path.{_≡_, sym, ap, _∙_}
 use mathlib.Core.List.{List, [], _∷_}
 use Prim.Native.Nat.{ℕ, zero, suc, _+_, _*_, _<_, _≤_}
-use native.Mathlib.Nat.{add-suc, add-zero}
+use native.Mathlib.Nat.{add-zero}
 use native.Mathlib.Omega.{arith}
-use lib.IntN.{ℤ, pos, _+ℤ_, _*ℤ_}
+use lib.IntN.{ℤ, pos, _*ℤ_}
 use lib.ListN.{getD, List·getD-eq-default}
 use Rattle.rules.specs.Limits.{coefficientMost, valueMost, keyMost}
 use Rattle.rules.specs.Laws.Bounds.{Within}

@@ -1,7 +1,7 @@
 -- The tag by its slot is the rules' tag: the first place along the slots at which the operator is = , or else one of <, ≤, > and ≥.
 use mathlib.Core.Path.{_≡_, refl, sym, ap, _∙_}
 use mathlib.Core.Bool.{Bool, true, false, _&&_, and-true}
-use mathlib.Core.List.{List, [], _∷_}
+use mathlib.Core.List.{List}
 use mathlib.Core.Option.{Option, none, some}
 use Prim.Native.Nat.{ℕ, zero, suc, _+_, _-_, _*_, _<_, _≤_, min}
 use native.Mathlib.Nat.{sub-zero, add-zero}

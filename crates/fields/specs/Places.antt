@@ -9,7 +9,7 @@ use lib.ListN.{length, drop, length-drop, drop-of-length-le}
 use lib.Seq.{drop-drop}
 use Rattle.rules.specs.Number.{Read, read, refused, Reader}
 use Rattle.rules.specs.Laws.Readers.{Took, Sound}
-use Rattle.fields.specs.Answers.{placeOf, asNumber, asSigned, refusalIn, signedRefusal}
+use Rattle.fields.specs.Answers.{placeOf, asNumber, asSigned}
 use Rattle.fields.specs.declared.number.Number.{Number}
 use Rattle.fields.specs.declared.number.Number.the-variants as number
 use Rattle.fields.specs.declared.field.Signed.{Signed}

@@ -1,6 +1,6 @@
 -- What a host sees of its room: of a room that came from an accepted opening and events, the rules' standings, the job inside and the values.
 use mathlib.Core.Path.{_≡_, refl, sym, ap, _∙_}
-use mathlib.Core.Bool.{Bool, true, false}
+use mathlib.Core.Bool.{false}
 use mathlib.Core.List.{List, [], _∷_}
 use mathlib.Core.Logic.{_⊎_, inl, inr}
 use Prim.Native.Nat.{ℕ, zero, suc, _+_, _-_, _<_, _≤_}
@@ -8,18 +8,17 @@ use native.Mathlib.Omega.{arith}
 use lib.Dec.{eqb}
 use lib.ListN.{getD, length}
 use borrow.Author.Tests.{eq-eqb, ne-eqb, eqb-true}
-use Rattle.rules.specs.Base.{if_then_else_, any}
+use Rattle.rules.specs.Base.{if_then_else_}
 use Rattle.rules.specs.Condition.{Condition}
 use Rattle.rules.specs.Room.{Standing, outside, door, inside, waiting, called, standing}
 use Rattle.rules.specs.Step.{occupied}
 use Rattle.rules.specs.Laws.In.{byBool}
 use Rattle.nodes.specs.Counts.{byLt}
-use Rattle.condition.specs.Closed.{from}
 use Rattle.condition.specs.Closes.{conditionIn}
 use Rattle.room.specs.Arrays.{standingOf, standingAt}
 use Rattle.room.specs.Kept.{Kept}
 use Rattle.room.specs.Standings.{from-past, standing-is}
-use Rattle.room.specs.Occupied.{isIn, somebody, occupied-is}
+use Rattle.room.specs.Occupied.{somebody, occupied-is}
 use Rattle.harbour.specs.Rooms.{arraysOf, meaning}
 use Rattle.harbour.specs.declared.Room.{Room}
 

@@ -16,7 +16,7 @@ use Rattle.fields.specs.Answers.{placeOf}
 use Rattle.room.specs.Arrays.{Arrays, roomOf}
 use Rattle.room.specs.Kept.{Kept}
 use Rattle.room.specs.Reports.{outcomeOf, jobIn, outcomeCode, jobCode, outcome-coded, job-coded}
-use Rattle.event.specs.Takes.{Takes, PlainTaken, Unchanged, LeftAt, placeIn, place-is, takenReport}
+use Rattle.event.specs.Takes.{Takes, PlainTaken, Unchanged, placeIn, place-is, takenReport}
 use Rattle.event.specs.declared.Taken.{Taken}
 use Rattle.event.specs.declared.Taken.the-variants.{Accepted, Refused, Nothing}
 use Rattle.harbour.specs.declared.report.Report.{Report}

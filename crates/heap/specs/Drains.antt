@@ -1,7 +1,7 @@
 -- Taking root after root off a heap gives its nodes in the order of their ranks: the root ranks first, and what is left holds the rest.
 use mathlib.Core.Path.{_≡_, sym, ap, _∙_}
 use mathlib.Core.List.{List, [], _∷_}
-use Prim.Native.Nat.{ℕ, _+_, _<_, _≤_}
+use Prim.Native.Nat.{ℕ, _+_, _<_}
 use native.Mathlib.Omega.{arith}
 use lib.ListN.{getD}
 use Rattle.nodes.specs.Counts.{count, count-find, count-at, is-self}

@@ -4,7 +4,7 @@ use mathlib.Core.Bool.{Bool, true, false}
 use Prim.Native.Nat.{ℕ, _+_, _/_, _%_}
 use native.Mathlib.Omega.{arith}
 use lib.Dec.{eqb}
-use lib.IntN.{ℤ, pos, negsuc, natAbs}
+use lib.IntN.{pos, negsuc, natAbs}
 use borrow.Author.Tests.{eqb-true, eqb-false}
 use Rattle.rules.specs.Base.{if_then_else_}
 use Rattle.rules.specs.Number.{signed}

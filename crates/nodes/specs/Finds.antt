@@ -1,5 +1,5 @@
 -- The first place of the first n where a node stands, or n where it stands nowhere: one number, whatever the search looked at.
-use mathlib.Core.Path.{_≡_, sym, _∙_}
+use mathlib.Core.Path.{_≡_}
 use mathlib.Core.List.{List}
 use Prim.Native.Nat.{ℕ, _+_, _<_, _≤_}
 use native.Mathlib.Omega.{arith}

@@ -1,6 +1,6 @@
 -- A heap's order, but for a hole: what may stand in the hole is asked by those under it and by the one over it, and a hole that moves up or
 -- down leaves an order but for the new hole. `parent` is any function that leads to a lower place.
-use mathlib.Core.Path.{_≡_, refl, sym, ap, _∙_}
+use mathlib.Core.Path.{_≡_, ap}
 use Prim.Native.Nat.{ℕ, _+_, _-_, _<_, _≤_}
 use native.Mathlib.Omega.{arith}
 use Rattle.nodes.specs.Counts.{byEq}

@@ -1,6 +1,6 @@
 -- A node's rank is one number, of two words: so all order is of numbers.
 use mathlib.Core.Path.{_≡_, sym, _∙_}
-use mathlib.Core.Bool.{Bool, true, false}
+use mathlib.Core.Bool.{true, false}
 use mathlib.Core.List.{List}
 use Prim.Native.Nat.{ℕ, _+_, _*_, _%_, _^_, _<_, _≤_}
 use native.Mathlib.Omega.{arith}

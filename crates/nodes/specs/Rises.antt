@@ -1,6 +1,6 @@
 -- A node rises from a hole while it ranks before the one at the place over it: so those under the hole never ask for less than it. `parent` leads
 -- to the place over another: in a heap, half way; in a row, the one before.
-use mathlib.Core.Path.{_≡_, refl, sym, ap, _∙_}
+use mathlib.Core.Path.{_≡_, refl, sym, _∙_}
 use mathlib.Core.Bool.{Bool, true, false, _&&_}
 use mathlib.Core.List.{List}
 use Prim.Native.Nat.{ℕ, _+_, _<_, _≤_}
@@ -10,7 +10,7 @@ use lib.ListN.{getD, set, length}
 use lib.Dec.{ltb}
 use Rattle.nodes.specs.Counts.{count, is, count-more}
 use Rattle.nodes.specs.Order.{Ordered, Hole, Kids, From, hole-up, kids-up, hole-end, hole-new, kids-new}
-use Rattle.nodes.specs.Holes.{value, Moved, Filled, At, moved-more, filled}
+use Rattle.nodes.specs.Holes.{value, Moved, Filled, moved-more, filled}
 
 -- x goes before what stands over place i
 unfoldable pub rises : (ℕ → ℕ) → (ℕ → ℕ) → List ℕ → ℕ → ℕ → Bool

@@ -1,6 +1,6 @@
 -- The nodes in the first n places, in the order of their ranks: one list, wherever each of them stands. For two ascending lists with the same
 -- contents have the same head, the one that ranks first, and so on down.
-use mathlib.Core.Path.{_≡_, refl, sym, ap, _∙_}
+use mathlib.Core.Path.{_≡_, refl, ap, _∙_}
 use mathlib.Core.Bool.{Bool, true, false}
 use mathlib.Core.List.{List, [], _∷_}
 use Prim.Native.Nat.{ℕ, zero, suc, _+_, _<_, _≤_}
@@ -8,7 +8,7 @@ use native.Mathlib.Omega.{arith}
 use lib.ListN.{getD}
 use lib.Dec.{ltb}
 use borrow.Author.Tests.{ltb-true, ltb-false}
-use Rattle.nodes.specs.Counts.{count, is, is-self, is-not, byEq, byLt}
+use Rattle.nodes.specs.Counts.{count, is, is-self, is-not, byEq}
 
 -- x into a list in order, before the first that does not rank before it
 abbrev pub putAmong : Bool → ℕ → ℕ → List ℕ → List ℕ → List ℕ

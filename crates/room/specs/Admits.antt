@@ -5,14 +5,13 @@ use mathlib.Core.Bool.{Bool, true, false}
 use mathlib.Core.List.{List}
 use Prim.Native.Nat.{ℕ, zero, suc, _<_, _≤_}
 use native.Mathlib.Omega.{arith}
-use lib.Dec.{eqb, ltb}
+use lib.Dec.{eqb}
 use borrow.Author.Tests.{eqb-true, eq-eqb, ne-eqb, ltb-false, lt-ltb}
 use lib.ListN.{getD, set, length-set}
 use lib.Seq.{getD-set-same, getD-set-other}
 use Rattle.rules.specs.Condition.{conditionTrue}
-use Rattle.rules.specs.Room.{Standing, standing, stand, door, inside, waiting, called, now}
+use Rattle.rules.specs.Room.{standing, stand, door, inside, waiting, called, now}
 use Rattle.rules.specs.Step.{Step, admit, admitted, occupied, refuse, step}
-use Rattle.rules.specs.Laws.In.{byBool, true-not-false}
 use Rattle.condition.specs.Measures.{nowAt}
 use Rattle.condition.specs.Closing.{ClosedSlots}
 use Rattle.condition.specs.Closes.{conditionIn}
@@ -20,8 +19,8 @@ use Rattle.nodes.specs.Counts.{byEq}
 use Rattle.entries.specs.Entries.{Waits}
 use Rattle.index.specs.Changes.{WordsOf, JoinedIndex}
 use Rattle.search.specs.declared.Answer.{Answer}
-use Rattle.room.specs.Arrays.{Arrays, standingOf, standingAt, roomOf}
-use Rattle.room.specs.Kept.{Sizes, Sound}
+use Rattle.room.specs.Arrays.{Arrays, standingOf, roomOf}
+use Rattle.room.specs.Kept.{Sound}
 use Rattle.room.specs.Standings.{standing-is, code-door, code-inside, code-waiting, code-called}
 use Rattle.room.specs.Calls.{moved, CallsNext}
 use Rattle.room.specs.Tickets.{withNext, sound-next, calls-next}

@@ -1,6 +1,5 @@
 -- Arrive: outside to door.
-use mathlib.Core.Path.{_≡_, refl, sym, ap, _∙_}
-use mathlib.Core.Bool.{Bool, true, false}
+use mathlib.Core.Path.{_≡_, refl, ap, _∙_}
 use mathlib.Core.List.{List}
 use Prim.Native.Nat.{ℕ, _<_}
 use native.Mathlib.Omega.{arith}
@@ -8,11 +7,11 @@ use lib.Dec.{eqb}
 use borrow.Author.Tests.{eqb-true, eq-eqb, ne-eqb}
 use lib.ListN.{getD, set}
 use Rattle.rules.specs.Base.{if_then_else_}
-use Rattle.rules.specs.Room.{isOutside, standing, stand, door}
-use Rattle.rules.specs.Step.{arrive, step}
+use Rattle.rules.specs.Room.{isOutside, standing, stand}
+use Rattle.rules.specs.Step.{arrive}
 use Rattle.rules.specs.Laws.In.{byBool}
 use Rattle.condition.specs.Closes.{conditionIn}
-use Rattle.room.specs.Arrays.{Arrays, standingOf, standingAt, roomOf}
+use Rattle.room.specs.Arrays.{Arrays, roomOf}
 use Rattle.room.specs.Kept.{Sound}
 use Rattle.room.specs.Standings.{standing-is, code-door}
 use Rattle.room.specs.Stands.{restood, room-stand, sound-stand}

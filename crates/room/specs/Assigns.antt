@@ -1,6 +1,5 @@
 -- Set: the job inside gives a shared variable a value.
-use mathlib.Core.Path.{_≡_, refl, sym, ap, _∙_}
-use mathlib.Core.Bool.{Bool, true, false}
+use mathlib.Core.Path.{_≡_, refl, ap, _∙_}
 use mathlib.Core.List.{List}
 use Prim.Native.Nat.{ℕ, _<_}
 use native.Mathlib.Omega.{arith}
@@ -11,14 +10,14 @@ use lib.ListN.{getD, set, length-set}
 use lib.Seq.{getD-set-same, getD-set-other}
 use Rattle.rules.specs.Base.{if_then_else_}
 use Rattle.rules.specs.Limits.{valueMost}
-use Rattle.rules.specs.Room.{isInside, standing, store}
-use Rattle.rules.specs.Step.{assign, step}
+use Rattle.rules.specs.Room.{isInside, standing}
+use Rattle.rules.specs.Step.{assign}
 use Rattle.rules.specs.Laws.In.{byBool}
 use Rattle.rules.specs.Laws.Bounds.{Within}
 use Rattle.condition.specs.Closes.{conditionIn}
 use Rattle.nodes.specs.Counts.{byEq}
-use Rattle.room.specs.Arrays.{Arrays, arrays, standingAt, roomOf}
-use Rattle.room.specs.Kept.{Sizes, Sound}
+use Rattle.room.specs.Arrays.{Arrays, arrays, roomOf}
+use Rattle.room.specs.Kept.{Sound}
 use Rattle.room.specs.Standings.{standing-is}
 use Rattle.room.specs.Reports.{accepted-not}
 use Rattle.room.specs.Steps.{Stepped, inside-is}

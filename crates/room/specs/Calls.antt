@@ -1,24 +1,21 @@
 -- A search moves at most one job, from waiting to called: the one that the rules' search finds, who is in the index and leaves it.
 use mathlib.Core.Path.{_≡_, refl, sym, ap, _∙_, subst}
-use mathlib.Core.Logic.{_⊎_, inl, inr}
-use mathlib.Core.Bool.{Bool, true, false}
+use mathlib.Core.Logic.{_⊎_}
 use mathlib.Core.List.{List}
 use mathlib.Core.Option.{Option, none, some}
 use Prim.Native.Nat.{ℕ, _<_, _≤_}
 use native.Mathlib.Omega.{arith}
-use lib.Dec.{eqb, ltb}
+use lib.Dec.{eqb}
 use lib.IntN.{ℤ}
 use lib.ListN.{getD, set, length-set}
 use lib.Seq.{getD-set-same, getD-set-other}
 use borrow.Author.Tests.{eq-eqb, ne-eqb, eqb-true, lt-ltb}
 use Rattle.rules.specs.Base.{if_then_else_}
-use Rattle.rules.specs.Search.{Waiter, Pair, pairs, found, evaluated}
-use Rattle.rules.specs.Laws.In.{In}
+use Rattle.rules.specs.Search.{Waiter, Pair, found, evaluated}
 use Rattle.rules.specs.Laws.Waiting.{pair-of}
 use Rattle.rules.specs.Demands.Calls.{found-true}
 use Rattle.condition.specs.Closing.{ClosedSlots}
 use Rattle.nodes.specs.Counts.{byEq}
-use Rattle.index.specs.Index.{Index}
 use Rattle.index.specs.Changes.{WordsOf, PartedIndex}
 use Rattle.search.specs.Pairs.{waiterAt, waitersIn, in-waiters}
 use Rattle.search.specs.Answers.{answer, searched}
@@ -26,7 +23,7 @@ use Rattle.search.specs.declared.Answer.{Answer}
 use Rattle.search.specs.declared.Answer.the-variants.{Calls, Nobody}
 use Rattle.search.specs.Indexed.{Indexed}
 use Rattle.room.specs.Arrays.{Arrays, arrays}
-use Rattle.room.specs.Kept.{Sizes, Sound}
+use Rattle.room.specs.Kept.{Sound}
 
 -- the standings after it
 abbrev pub calledStanding : Answer → List ℕ → List ℕ

@@ -1,10 +1,9 @@
 -- What a room's arrays keep between events: the rules' invariant, document 01's ranges, and the index over those that wait. It stands for "this room
 -- came from an accepted opening and events".
 use mathlib.Core.Path.{_≡_}
-use mathlib.Core.List.{List}
 use Prim.Native.Nat.{ℕ, _*_, _^_, _<_, _≤_}
 use lib.Dec.{eqb, ltb}
-use lib.IntN.{ℤ, pos}
+use lib.IntN.{pos}
 use lib.ListN.{getD, length}
 use Rattle.rules.specs.Demands.Invariant.{Invariant}
 use Rattle.condition.specs.Measures.{Ranges}

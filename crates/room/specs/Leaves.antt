@@ -1,20 +1,18 @@
 -- Leave: inside to outside, then a search.
 use mathlib.Core.Path.{_≡_, refl, sym, ap, _∙_, subst}
-use mathlib.Core.Bool.{Bool, true, false}
 use mathlib.Core.List.{List}
 use Prim.Native.Nat.{ℕ, _<_}
 use native.Mathlib.Omega.{arith}
-use lib.Dec.{eqb}
 use borrow.Author.Tests.{eq-eqb, ne-eqb}
 use lib.ListN.{getD, set}
-use Rattle.rules.specs.Room.{isInside, standing, stand, outside}
-use Rattle.rules.specs.Step.{leave, step}
+use Rattle.rules.specs.Room.{standing, stand, outside}
+use Rattle.rules.specs.Step.{leave}
 use Rattle.condition.specs.Measures.{nowAt}
 use Rattle.search.specs.declared.Answer.{Answer}
-use Rattle.room.specs.Arrays.{Arrays, roomOf}
-use Rattle.room.specs.Kept.{Sizes, Sound}
+use Rattle.room.specs.Arrays.{Arrays}
+use Rattle.room.specs.Kept.{Sound}
 use Rattle.room.specs.Calls.{moved, CallsNext}
-use Rattle.room.specs.Stands.{restood, room-stand, sound-stand}
+use Rattle.room.specs.Stands.{room-stand, sound-stand}
 use Rattle.room.specs.Tickets.{withNext, sound-next, calls-next}
 use Rattle.room.specs.Reports.{meaning, searchReport, search-not, Plain}
 use Rattle.room.specs.Steps.{Stepped}

@@ -1,6 +1,6 @@
 -- Arrays of 0, and the index of nobody: no job is in it, so every home is empty, and what it says of a waiting job has nothing to say.
 use mathlib.Core.Path.{_≡_, refl, _∙_}
-use mathlib.Core.Bool.{Bool, false}
+use mathlib.Core.Bool.{false}
 use mathlib.Core.List.{List, [], _∷_}
 use Prim.Native.Nat.{ℕ, zero, suc, _+_, _*_, _/_}
 use native.Mathlib.Omega.{arith}

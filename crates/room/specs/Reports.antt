@@ -1,9 +1,8 @@
 -- Document 01's report for each case of the code's.
 use mathlib.Core.Path.{_≡_, refl, sym, ap, _∙_}
-use mathlib.Core.Bool.{Bool, true, false}
 use mathlib.Core.List.{List}
 use mathlib.Core.Option.{Option, none, some}
-use Prim.Native.Nat.{ℕ, zero, suc, _<_, _≤_}
+use Prim.Native.Nat.{ℕ, zero, suc, _≤_}
 use native.Mathlib.Omega.{arith}
 use lib.Dec.{eqb, ltb}
 use lib.IntN.{ℤ}
@@ -18,7 +17,7 @@ use Rattle.search.specs.Pairs.{waitersIn}
 use Rattle.search.specs.Answers.{answer, searched}
 use Rattle.search.specs.declared.Answer.{Answer}
 use Rattle.search.specs.declared.Answer.the-variants.{Calls, Nobody}
-use Rattle.room.specs.Calls.{FoundOne, found-one}
+use Rattle.room.specs.Calls.{found-one}
 use Rattle.room.specs.declared.report.Report.{Report}
 use Rattle.room.specs.declared.report.Report.the-variants.{Accepted, Refused}
 

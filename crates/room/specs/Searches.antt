@@ -1,18 +1,17 @@
 -- A search in the room's arrays is the rules' search: those that stand waiting are those in the index, and the measures' values are the rules'.
-use mathlib.Core.Path.{_≡_, refl, sym, ap, _∙_}
-use mathlib.Core.Bool.{Bool, true, false}
+use mathlib.Core.Path.{_≡_, sym, ap, _∙_}
+use mathlib.Core.Bool.{false}
 use mathlib.Core.List.{List}
-use mathlib.Core.Option.{Option}
-use Prim.Native.Nat.{ℕ, _<_, _≤_}
+use Prim.Native.Nat.{ℕ, _≤_}
 use native.Mathlib.Omega.{arith}
-use lib.Dec.{eqb, ltb}
-use borrow.Author.Tests.{eqb-true, eq-eqb, lt-ltb}
+use lib.Dec.{eqb}
+use borrow.Author.Tests.{eqb-true, lt-ltb}
 use lib.IntN.{ℤ, pos}
-use lib.ListN.{getD, set}
+use lib.ListN.{getD}
 use lib.Seq.{getD-set-other}
 use Rattle.rules.specs.Condition.{Condition, conditionTrue}
 use Rattle.rules.specs.Room.{now}
-use Rattle.rules.specs.Search.{Waiter, Pair, waiters, found, evaluated}
+use Rattle.rules.specs.Search.{Waiter, waiters, found, evaluated}
 use Rattle.rules.specs.Step.{accepted, call, jobOf}
 use Rattle.rules.specs.Laws.In.{true-not-false}
 use Rattle.condition.specs.Measures.{nowAt}
@@ -24,9 +23,9 @@ use Rattle.search.specs.Answers.{searched}
 use Rattle.search.specs.declared.Answer.{Answer}
 use Rattle.search.specs.declared.Answer.the-variants.{Calls, Nobody}
 use Rattle.room.specs.Arrays.{Arrays, roomOf}
-use Rattle.room.specs.Kept.{Sizes, Sound}
+use Rattle.room.specs.Kept.{Sound}
 use Rattle.room.specs.Standings.{waiters-same}
-use Rattle.room.specs.Calls.{calledStanding, moved, CallsNext, called-small, called-waits}
+use Rattle.room.specs.Calls.{calledStanding, moved, CallsNext, called-waits}
 use Rattle.room.specs.Stands.{call-room}
 use Rattle.room.specs.Reports.{meaning, outcomeOf, searchReport, report-means, report-plain, Plain}
 

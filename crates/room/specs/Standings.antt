@@ -1,21 +1,21 @@
 -- One job's standing is stored, and the rules' room changes as `stand` says; and those that stand waiting are those in the index.
 use mathlib.Core.Path.{_≡_, refl, sym, ap, _∙_}
-use mathlib.Core.Bool.{Bool, true, false}
-use mathlib.Core.List.{List, [], _∷_, _++_}
+use mathlib.Core.Bool.{false}
+use mathlib.Core.List.{[], _∷_, _++_}
 use Prim.Native.Nat.{ℕ, zero, suc, _+_, _<_, _≤_}
 use native.Mathlib.Nat.{add-zero}
 use native.Mathlib.Omega.{arith}
 use lib.Dec.{eqb, ltb}
 use borrow.Author.Tests.{eqb-true, eq-eqb, ne-eqb}
-use lib.ListN.{getD, set, length}
+use lib.ListN.{getD, set}
 use Rattle.rules.specs.Base.{if_then_else_, gather}
 use Rattle.rules.specs.Condition.{Condition}
-use Rattle.rules.specs.Room.{Room, Standing, outside, door, inside, waiting, called, standing}
-use Rattle.rules.specs.Search.{Waiter, waiter, waiters}
-use Rattle.rules.specs.Laws.In.{byBool, true-not-false}
+use Rattle.rules.specs.Room.{Standing, outside, door, inside, waiting, called, standing}
+use Rattle.rules.specs.Search.{waiter, waiters}
+use Rattle.rules.specs.Laws.In.{byBool}
 use Rattle.condition.specs.Closed.{from}
 use Rattle.condition.specs.Closes.{conditionIn}
-use Rattle.search.specs.Pairs.{waiterAt, waiterIf, waitersIn}
+use Rattle.search.specs.Pairs.{waiterIf, waitersIn}
 use Rattle.room.specs.Arrays.{Arrays, standingOf, standingAt, roomOf}
 
 -- ---- places

@@ -1,28 +1,27 @@
 -- A job's standing changes: the rules' room changes as `stand` says, and what the arrays keep is kept where the job neither waited nor waits now.
-use mathlib.Core.Path.{_≡_, refl, sym, ap, _∙_, subst}
-use mathlib.Core.Bool.{Bool, true, false}
+use mathlib.Core.Path.{_≡_, refl, sym, ap, _∙_}
+use mathlib.Core.Bool.{false}
 use mathlib.Core.List.{List}
 use mathlib.Core.Option.{Option, none, some}
 use Prim.Native.Nat.{ℕ, _<_, _≤_}
 use native.Mathlib.Omega.{arith}
-use lib.Dec.{eqb, ltb}
+use lib.Dec.{eqb}
 use lib.IntN.{ℤ}
 use lib.ListN.{getD, set, length-set}
 use lib.Seq.{getD-set-same, getD-set-other}
-use borrow.Author.Tests.{eq-eqb, ne-eqb}
-use Rattle.rules.specs.Room.{Room, Standing, called, stand, now}
+use Rattle.rules.specs.Room.{called, stand, now}
 use Rattle.rules.specs.Search.{Waiter, Pair, found, evaluated}
-use Rattle.rules.specs.Step.{call, jobOf}
+use Rattle.rules.specs.Step.{call}
 use Rattle.condition.specs.Closes.{conditionIn}
 use Rattle.nodes.specs.Counts.{byEq}
-use Rattle.search.specs.Pairs.{waiterAt, waitersIn}
+use Rattle.search.specs.Pairs.{waitersIn}
 use Rattle.search.specs.Answers.{answer, searched}
 use Rattle.search.specs.declared.Answer.{Answer}
 use Rattle.search.specs.declared.Answer.the-variants.{Calls, Nobody}
-use Rattle.room.specs.Arrays.{Arrays, arrays, standingOf, standingAt, roomOf}
+use Rattle.room.specs.Arrays.{Arrays, standingOf, roomOf}
 use Rattle.room.specs.Kept.{Sizes, Sound}
 use Rattle.room.specs.Standings.{standings-set, code-called}
-use Rattle.room.specs.Calls.{calledStanding, moved, CallsNext, FoundOne, found-one}
+use Rattle.room.specs.Calls.{calledStanding, moved, CallsNext, found-one}
 
 -- the arrays with other standings
 abbrev pub restood : Arrays → List ℕ → Arrays

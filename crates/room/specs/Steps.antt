@@ -1,12 +1,10 @@
 -- What an event leaves: the rules' report, the rules' room, and arrays that keep what they kept; refused, the very arrays.
-use mathlib.Core.Path.{_≡_, refl, sym, ap, _∙_}
-use mathlib.Core.Bool.{Bool, true, false}
-use mathlib.Core.List.{List}
-use Prim.Native.Nat.{ℕ, zero, suc, _≤_, _<_}
+use mathlib.Core.Path.{_≡_, refl}
+use Prim.Native.Nat.{ℕ, zero, suc, _≤_}
 use native.Mathlib.Omega.{arith}
 use lib.Dec.{eqb}
 use Rattle.rules.specs.Condition.{Condition}
-use Rattle.rules.specs.Room.{Room, isInside, isOutside}
+use Rattle.rules.specs.Room.{isInside, isOutside}
 use Rattle.rules.specs.Step.{Event, step}
 use Rattle.room.specs.Arrays.{Arrays, standingOf, roomOf}
 use Rattle.room.specs.Kept.{Sound}

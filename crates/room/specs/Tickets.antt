@@ -4,7 +4,7 @@ use Prim.Native.Nat.{ℕ}
 use lib.IntN.{ℤ}
 use Rattle.search.specs.declared.Answer.{Answer}
 use Rattle.room.specs.Arrays.{Arrays, arrays}
-use Rattle.room.specs.Kept.{Sizes, Sound}
+use Rattle.room.specs.Kept.{Sound}
 use Rattle.room.specs.Calls.{moved, CallsNext}
 
 abbrev pub withNext : Arrays → ℕ → Arrays

@@ -1,5 +1,4 @@
 // A search over those that wait; the job that it finds is called, and leaves the index.
-ghost use mathlib.Core.Path.{_≡_};
 ghost use Rattle.condition.specs.Measures.{nowAt};
 ghost use Rattle.condition.specs.Closing.{closedSlots};
 ghost use Rattle.room.specs.Arrays.{arrays};

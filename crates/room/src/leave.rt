@@ -1,5 +1,4 @@
 // Leave (5): inside to outside, then a search. Whatever the next ticket is: it has no part in this.
-ghost use mathlib.Core.Path.{_≡_};
 ghost use Prim.Native.Nat.{ℕ, _<_};
 ghost use Rattle.rules.specs.Step as rules;
 ghost use Rattle.condition.specs.Closing.{closedSlots};

@@ -1,6 +1,6 @@
 -- A row in the order of ranks is in the order of their first words: the second word is less than one of the first counts for.
 use mathlib.Core.List.{List}
-use Prim.Native.Nat.{ℕ, _+_, _*_, _%_, _^_, _<_, _≤_}
+use Prim.Native.Nat.{ℕ, _%_, _^_, _<_, _≤_}
 use native.Mathlib.Omega.{arith}
 use lib.ListN.{getD}
 use Rattle.nodes.specs.Ranks.{two, rank}

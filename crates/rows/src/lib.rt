@@ -2,7 +2,7 @@
 // equality tag stand in one row, those without a tag in another. A row is searched by halving.
 ghost use mathlib.Core.Path.{_≡_};
 ghost use Prim.Native.Nat.{ℕ, _<_, _≤_};
-ghost use lib.ListN.{getD, length};
+ghost use lib.ListN.{length};
 ghost use Rattle.nodes.specs.Ranks.{rank};
 ghost use Rattle.nodes.specs.Order.{Ordered};
 ghost use Rattle.nodes.specs.Holes.{value};

@@ -1,5 +1,5 @@
 -- "Standings and events": the five events, one at a time, with refusals 5 to 7.
-use mathlib.Core.Bool.{Bool, true, false, not}
+use mathlib.Core.Bool.{Bool}
 use mathlib.Core.List.{List}
 use mathlib.Core.Option.{Option, none, some}
 use Prim.Native.Nat.{ℕ}

@@ -1,17 +1,14 @@
 -- What the walk over the leads' nodes finds and counts is what the rules' search does: `law-found` and `law-count`, node by node.
 use mathlib.Core.Path.{_≡_, refl, sym, ap, _∙_}
-use mathlib.Core.Bool.{Bool, true, false}
+use mathlib.Core.Bool.{Bool}
 use mathlib.Core.List.{List, [], _∷_, map}
 use mathlib.Core.Option.{Option, none, some}
-use Prim.Native.Nat.{ℕ, suc, _+_, _*_, _/_, _%_, _<_}
-use native.Mathlib.Omega.{arith}
+use Prim.Native.Nat.{ℕ, suc, _/_}
 use lib.IntN.{ℤ}
-use lib.ListN.{getD}
 use Rattle.rules.specs.Base.{if_then_else_, first}
-use Rattle.rules.specs.Condition.{alternativeTrue}
-use Rattle.rules.specs.Search.{Waiter, Pair, follows, found, evaluated}
+use Rattle.rules.specs.Search.{Waiter, Pair, found, evaluated}
 use Rattle.rules.specs.Laws.In.{In, byBool}
-use Rattle.rules.specs.Laws.InRankOrder.{Ordered, upTo, law-found, law-count}
+use Rattle.rules.specs.Laws.InRankOrder.{upTo}
 use Rattle.rules.specs.Demands.Calls.{isTrue}
 use Rattle.walk.specs.declared.Walk.{Walk}
 use Rattle.walk.specs.declared.Walk.the-variants as walk

@@ -1,14 +1,11 @@
 -- Lists of nodes by the bounds of their words. A stretch has, in rising order of rank, all nodes of a set whose words are from one bound to another;
 -- stretches that meet make a longer one, and the one that has all words is the whole set in order.
-use mathlib.Core.Path.{_≡_, refl, sym, ap, _∙_}
+use mathlib.Core.Path.{_≡_}
 use mathlib.Core.Logic.{_⊎_, inl, inr}
-use mathlib.Core.List.{List, [], _∷_, _++_}
+use mathlib.Core.List.{List, [], _++_}
 use Prim.Native.Nat.{ℕ, zero, suc, _+_, _*_, _<_, _≤_}
-use native.Mathlib.Nat.{add-zero}
 use native.Mathlib.Omega.{arith}
-use Rattle.rules.specs.Base.{gather}
 use Rattle.rules.specs.Laws.In.{In, in-left, in-right, in-append}
-use Rattle.condition.specs.Closed.{from}
 use Rattle.nodes.specs.Counts.{byLt}
 use Rattle.search.specs.Rising.{Rising, rising-same, rising-append}
 use Rattle.search.specs.Stretches.{lists}

@@ -10,9 +10,9 @@ use native.Mathlib.Omega.{arith}
 use lib.ListN.{getD, length, take, drop}
 use lib.Seq.{drop-cons}
 use Rattle.rules.specs.Base.{if_then_else_}
-use Rattle.rules.specs.Laws.In.{In, byBool, true-not-false}
+use Rattle.rules.specs.Laws.In.{In, byBool}
 use Rattle.condition.specs.Closed.{from}
-use Rattle.nodes.specs.Counts.{count, is, is-self, is-not, bit, byEq, byLt, count-more, count-find, count-at}
+use Rattle.nodes.specs.Counts.{count, is, is-self, is-not, bit, byEq, count-more, count-at}
 use Rattle.nodes.specs.Order.{Ordered}
 use Rattle.nodes.specs.Holes.{value}
 use Rattle.nodes.specs.Sorted.{sorted, times, Ascending, Apart, sorted-times, sorted-ascending}

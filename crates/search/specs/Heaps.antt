@@ -1,8 +1,8 @@
 -- The nodes of a heap whose tags hold, in the order of ranks; and what a heap has to be for a search to walk it.
-use mathlib.Core.Path.{_≡_, refl, sym, ap, _∙_}
-use mathlib.Core.Bool.{Bool, true, false}
+use mathlib.Core.Path.{_≡_, refl, ap, _∙_}
+use mathlib.Core.Bool.{Bool}
 use mathlib.Core.List.{List, [], _∷_}
-use Prim.Native.Nat.{ℕ, zero, suc, _+_, _*_, _-_, _<_, _≤_}
+use Prim.Native.Nat.{ℕ, zero, suc, _*_, _-_, _<_, _≤_}
 use native.Mathlib.Omega.{arith}
 use lib.Dec.{ltb}
 use lib.ListN.{getD, length, take, drop, length-drop}
@@ -10,7 +10,7 @@ use lib.Seq.{length-take-le}
 use Rattle.rules.specs.Laws.In.{byBool}
 use Rattle.nodes.specs.Order.{Ordered}
 use Rattle.nodes.specs.Holes.{value}
-use Rattle.nodes.specs.Sorted.{sorted, among, putAmong, Apart}
+use Rattle.nodes.specs.Sorted.{sorted, among, Apart}
 use Rattle.heap.specs.Places.{above}
 use Rattle.homes.specs.Regions.{region}
 use Rattle.walk.specs.declared.Walk.{Walk}

@@ -1,5 +1,4 @@
 -- Arrays that are the index of some jobs that wait: what a search asks of a room. Who they are is not in the arrays that it reads.
-use mathlib.Core.Path.{_≡_}
 use mathlib.Core.List.{List}
 use Prim.Native.Nat.{ℕ, _^_, _<_}
 use lib.IntN.{ℤ}

@@ -2,17 +2,16 @@
 -- rules count, and a list of them in rising order of rank words is a list of pairs in the order of ranks.
 use mathlib.Core.Path.{_≡_, refl, sym, ap, _∙_, subst}
 use mathlib.Core.Logic.{_⊎_, inl, inr}
-use mathlib.Core.Bool.{Bool, true, false, not, _&&_}
+use mathlib.Core.Bool.{Bool, true, false, not}
 use mathlib.Core.List.{List, [], _∷_, _++_, map}
 use Prim.Native.Nat.{ℕ, zero, suc, _+_, _*_, _/_, _%_, _<_, _≤_, min}
-use native.Mathlib.Nat.{add-zero}
 use native.Mathlib.Omega.{arith}
 use lib.Dec.{ltb}
 use borrow.Author.Tests.{ltb-true, lt-ltb}
 use lib.IntN.{ℤ}
 use lib.ListN.{getD}
 use Rattle.rules.specs.Base.{if_then_else_, those, gather}
-use Rattle.rules.specs.Condition.{Atom, Condition}
+use Rattle.rules.specs.Condition.{Atom}
 use Rattle.rules.specs.Tag.{tagHolds}
 use Rattle.rules.specs.Rank.{before, rank}
 use Rattle.rules.specs.Search.{Waiter, Pair, pairsOf, pairs, follows, oldest}

@@ -1,6 +1,6 @@
 -- Where a lead's node ranks, by its home: equality tags below the thresholds, each heap in a band of its own, those without a tag above them.
-use mathlib.Core.Path.{_≡_, refl, sym, ap, _∙_}
-use mathlib.Core.Bool.{Bool, true, false}
+use mathlib.Core.Path.{_≡_, sym, _∙_}
+use mathlib.Core.Bool.{true}
 use mathlib.Core.Option.{Option, none, some}
 use Prim.Native.Nat.{ℕ, _+_, _*_, _^_, _<_, _≤_}
 use native.Mathlib.Omega.{arith}
@@ -16,7 +16,7 @@ use Rattle.ranks.specs.Biased.{biased-below}
 use Rattle.filing.specs.Homes.{home}
 use Rattle.filing.specs.Bands as bands
 use Rattle.rows.specs.Halves.{wordOf}
-use Rattle.search.specs.Live.{Searchable, node, tagFor, homeFor, Node, node-is, home-is, fits-is}
+use Rattle.search.specs.Live.{Searchable, node, tagFor, homeFor, node-is, home-is, fits-is}
 
 -- ---- a tag of a room with so many measures
 abbrev TagBelow : ℕ → Option Atom → Type 0

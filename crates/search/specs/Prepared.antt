@@ -1,6 +1,6 @@
 -- An index that keeps its invariant is fit to be searched: no home has more nodes than places, rows are in the order of words, heaps in theirs.
-use mathlib.Core.Path.{_≡_, refl, sym, ap, _∙_}
-use mathlib.Core.Bool.{Bool, true, false}
+use mathlib.Core.Path.{_≡_, refl, ap, _∙_}
+use mathlib.Core.Bool.{Bool}
 use mathlib.Core.List.{List, _++_}
 use Prim.Native.Nat.{ℕ, _+_, _*_, _-_, _%_, _^_, _<_, _≤_}
 use native.Mathlib.Nat.{sub-zero}
@@ -9,7 +9,6 @@ use lib.IntN.{ℤ}
 use lib.ListN.{getD, length, take, drop, length-append, length-drop}
 use lib.Seq.{length-take-le}
 use Rattle.condition.specs.Closing.{from-many}
-use Rattle.nodes.specs.Counts.{count, bit}
 use Rattle.nodes.specs.Order.{Ordered}
 use Rattle.nodes.specs.Holes.{value}
 use Rattle.rows.specs.Places.{previous}
@@ -25,7 +24,7 @@ use Rattle.search.specs.Stretches.{lists, lists-long}
 use Rattle.search.specs.Runs.{nodesOf}
 use Rattle.search.specs.Lookups.{equalities, equalities-most}
 use Rattle.search.specs.Heaps.{Ready, thresholds, thresholds-most}
-use Rattle.search.specs.Live.{Searchable, node, rankOf, node-is, low-fits, belongs, home-holds, belongs-node}
+use Rattle.search.specs.Live.{Searchable, rankOf, node-is, low-fits, belongs, home-holds, belongs-node}
 use Rattle.search.specs.Stretched.{row-order, in-row}
 
 -- what the code asks of the homes

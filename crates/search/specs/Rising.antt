@@ -3,12 +3,12 @@ use mathlib.Core.Path.{_≡_, refl, sym, ap, _∙_}
 use mathlib.Core.Logic.{_⊎_, inl, inr}
 use mathlib.Core.Bool.{Bool, true, false}
 use mathlib.Core.List.{List, [], _∷_, _++_}
-use Prim.Native.Nat.{ℕ, zero, suc, _<_, _≤_}
+use Prim.Native.Nat.{ℕ, zero, suc, _<_}
 use native.Mathlib.Omega.{arith}
 use lib.Dec.{ltb}
 use borrow.Author.Tests.{ltb-true, ltb-false}
 use Rattle.rules.specs.Base.{if_then_else_, those}
-use Rattle.rules.specs.Laws.In.{In, byBool, true-not-false, in-those}
+use Rattle.rules.specs.Laws.In.{In, byBool, in-those}
 use Rattle.nodes.specs.Counts.{byEq}
 use Rattle.nodes.specs.Sorted.{among, putAmong}
 

@@ -3,9 +3,9 @@
 use mathlib.Core.Path.{_≡_, refl, sym, ap, _∙_, subst}
 use mathlib.Core.Bool.{Bool, true, false, not, _&&_}
 use mathlib.Core.List.{List, map, _++_}
-use Prim.Native.Nat.{ℕ, _+_, _*_, _-_, _/_, _%_, _^_, _<_, _≤_}
+use Prim.Native.Nat.{ℕ, _+_, _*_, _-_, _/_, _%_, _<_}
 use native.Mathlib.Omega.{arith}
-use lib.Dec.{eqb, ltb}
+use lib.Dec.{ltb}
 use borrow.Author.Tests.{eqb-true, eq-eqb, ltb-true, lt-ltb}
 use lib.ListN.{getD}
 use Rattle.rules.specs.Condition.{identical, alternativeTrue}
@@ -17,11 +17,11 @@ use Rattle.rules.specs.Laws.Identical.{identical-true, identical-same}
 use Rattle.rules.specs.Laws.InRankOrder.{Ordered, law-found, law-count}
 use Rattle.condition.specs.Tags.{tag-means}
 use Rattle.condition.specs.Closes.{conditionIn}
-use Rattle.ranks.specs.Words.{word, highWord, lowWord, TagFits}
+use Rattle.ranks.specs.Words.{word, highWord, TagFits}
 use Rattle.ranks.specs.Law.{word-order}
 use Rattle.nodes.specs.Ranks.{two}
 use Rattle.rows.specs.Halves.{wordOf}
-use Rattle.entries.specs.Entries.{Waits, isLead, Led, waits-below}
+use Rattle.entries.specs.Entries.{Waits, isLead, waits-below}
 use Rattle.index.specs.Filed.{countIn}
 use Rattle.walk.specs.Walks.{nodeTrue, walked}
 use Rattle.homes.specs.Regions.{region}

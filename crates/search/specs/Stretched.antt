@@ -1,18 +1,13 @@
 -- The three structures of the index are stretches of one list: the leads' nodes whose tag holds, in rising order of rank. An equality tag of a measure
 -- holds if its word is that of the measure's value; in a heap the tags that hold come first; those without a tag all hold.
-use mathlib.Core.Path.{_≡_, refl, sym, ap, _∙_}
-use mathlib.Core.Bool.{Bool, true, false, _&&_}
-use mathlib.Core.List.{List, [], _∷_, _++_}
+use mathlib.Core.Path.{_≡_, sym, _∙_}
+use mathlib.Core.Bool.{true, _&&_}
+use mathlib.Core.List.{List}
 use Prim.Native.Nat.{ℕ, _+_, _*_, _-_, _^_, _<_, _≤_}
 use native.Mathlib.Nat.{sub-zero}
 use native.Mathlib.Omega.{arith}
-use lib.Dec.{eqb}
-use borrow.Author.Tests.{eqb-true, eq-eqb}
-use lib.IntN.{ℤ, pos}
-use lib.ListN.{getD, length}
-use Rattle.rules.specs.Tag.{holds}
-use Rattle.rules.specs.Laws.In.{In, both, in-those, those-in}
-use Rattle.filing.specs.Words.{equalityWord}
+use lib.ListN.{getD}
+use Rattle.rules.specs.Laws.In.{In, both}
 use Rattle.filing.specs.Bands as bands
 use Rattle.nodes.specs.Counts.{byLt, count-find, count-at}
 use Rattle.nodes.specs.Order.{Ordered}
@@ -21,16 +16,13 @@ use Rattle.nodes.specs.Sorted.{sorted}
 use Rattle.rows.specs.Places.{previous}
 use Rattle.homes.specs.Orders.{over-row}
 use Rattle.homes.specs.Regions.{region}
-use Rattle.drain.specs.Drained.{while}
-use Rattle.search.specs.Rising.{Rising, listed, in-listed, listed-in, rising-listed, rising-those}
-use Rattle.search.specs.Stretches.{lists}
-use Rattle.search.specs.Bands.{Stretch, stretch-none, stretch-whole, stretch-append, stretch-lists}
+use Rattle.search.specs.Rising.{Rising, listed, in-listed, listed-in, rising-listed}
+use Rattle.search.specs.Bands.{Stretch}
 use Rattle.search.specs.Contents.{Holds, passes, stands, in-sorted, sorted-in, rising-sorted, while-only, while-rising, while-every, from-in, in-from, rising-part}
-use Rattle.search.specs.Runs.{nodesOf, run}
-use Rattle.search.specs.Lookups.{equalities}
+use Rattle.search.specs.Runs.{nodesOf}
 use Rattle.search.specs.Heaps.{thresholds}
 use Rattle.search.specs.Live.{Searchable, node, rankOf, tagFor, homeFor, tagged, node-is, nodes-apart, by-word, word-before, belongs, home-holds, belongs-node, node-belongs, home-is, fits-is, operator-is, tag-is}
-use Rattle.search.specs.Placed.{wordFor, Placed, placed}
+use Rattle.search.specs.Placed.{wordFor, placed}
 
 module _ (q : Searchable) where
   -- the leads' nodes whose tag holds, in the order of their ranks

@@ -1,7 +1,7 @@
 -- Equality tags by measure, then the heaps by measure and direction, then the row without tags: together all nodes whose tag holds, in order.
-use mathlib.Core.Path.{_≡_, refl, sym, ap, _∙_}
-use mathlib.Core.Bool.{Bool, true, false}
-use mathlib.Core.List.{List, [], _∷_, _++_}
+use mathlib.Core.Path.{_≡_, sym, _∙_}
+use mathlib.Core.Bool.{Bool, true}
+use mathlib.Core.List.{List, _++_}
 use Prim.Native.Nat.{ℕ, _+_, _*_, _^_, _<_, _≤_}
 use native.Mathlib.Omega.{arith}
 use lib.Dec.{eqb}
@@ -21,7 +21,7 @@ use Rattle.search.specs.Runs.{nodesOf, run}
 use Rattle.search.specs.Lookups.{equalities}
 use Rattle.search.specs.Heaps.{thresholds}
 use Rattle.search.specs.Live.{Searchable, node, rankOf, tagFor, homeFor, tagged, node-is, home-is, fits-is, operator-is, tag-is}
-use Rattle.search.specs.Placed.{wordFor, Placed, placed}
+use Rattle.search.specs.Placed.{wordFor, placed}
 use Rattle.search.specs.Stretched.{holding, in-holding, holding-in, rising-holding, holding-words, Part, heap-stretch, in-row, row-in, rising-row}
 
 module _ (q : Searchable) where

@@ -11,8 +11,6 @@ ghost use Rattle.condition.specs.Measures.{Ranges, nowAt};
 ghost use Rattle.nodes.specs.Ranks.{rank};
 ghost use Rattle.nodes.specs.Order.{Ordered};
 ghost use Rattle.nodes.specs.Holes.{value};
-ghost use Rattle.nodes.specs.Sorted.{sorted, Apart};
-ghost use Rattle.heap.specs.Places.{above};
 ghost use Rattle.rows.specs.Places.{previous};
 ghost use Rattle.rows.specs.Halves.{wordOf};
 ghost use Rattle.homes.specs.Regions.{region};

@@ -1,23 +1,23 @@
 -- A job begins to wait: its condition and its ticket are stored where nobody looks while it is not in the index, and then it joins.
 use mathlib.Core.Path.{_≡_, refl, sym, ap, _∙_, subst}
-use mathlib.Core.Bool.{Bool, true, false}
+use mathlib.Core.Bool.{false}
 use mathlib.Core.List.{List}
 use mathlib.Core.Option.{Option, none, some}
-use Prim.Native.Nat.{ℕ, suc, _+_, _*_, _^_, _<_, _≤_}
+use Prim.Native.Nat.{ℕ, suc, _+_, _*_, _<_, _≤_}
 use native.Mathlib.Omega.{arith}
-use lib.Dec.{eqb, ltb}
+use lib.Dec.{eqb}
 use borrow.Author.Tests.{eqb-true, eq-eqb, ne-eqb, ltb-false, lt-ltb, lt-leb}
 use lib.ListN.{getD, set, length-set}
 use lib.Seq.{sets, getD-set-same, getD-set-other}
 use Rattle.rules.specs.Limits.{tickets}
 use Rattle.rules.specs.Condition.{conditionTrue}
-use Rattle.rules.specs.Room.{Room, isInside, standing, stand, waiting, now, giveTicket}
+use Rattle.rules.specs.Room.{Room, standing, stand, waiting, now, giveTicket}
 use Rattle.rules.specs.Search.{Pair, found}
-use Rattle.rules.specs.Step.{call, step}
+use Rattle.rules.specs.Step.{call}
 use Rattle.condition.specs.Measures.{nowAt}
 use Rattle.condition.specs.Closed.{from}
 use Rattle.condition.specs.Closing.{ClosedSlots, GivenSlots, putClosed}
-use Rattle.condition.specs.Closes.{Sized, conditionIn, givenCondition, closes}
+use Rattle.condition.specs.Closes.{Sized, conditionIn, closes}
 use Rattle.ranks.specs.Words.{highWord, lowWord}
 use Rattle.nodes.specs.Counts.{byEq}
 use Rattle.entries.specs.Entries.{Waits}
@@ -28,10 +28,10 @@ use Rattle.index.specs.Elsewhere.{tag-kept, index-elsewhere}
 use Rattle.search.specs.Live.{SlotsFit}
 use Rattle.search.specs.declared.Answer.{Answer}
 use Rattle.room.specs.Arrays.{Arrays, arrays, standingAt, roomOf}
-use Rattle.room.specs.Kept.{Sizes, Sound}
+use Rattle.room.specs.Kept.{Sound}
 use Rattle.room.specs.Standings.{standings-set, code-waiting}
 use Rattle.room.specs.Calls.{moved, CallsNext}
-use Rattle.room.specs.Tickets.{withNext, sound-next, calls-next}
+use Rattle.room.specs.Tickets.{withNext, calls-next}
 use Rattle.room.specs.Reports.{meaning, searchReport, search-not, Plain}
 use Rattle.room.specs.Steps.{Stepped}
 use Rattle.room.specs.Searches.{waitingIn, search-room, search-report, search-plain, search-others, search-held}

@@ -1,28 +1,22 @@
 -- Wait: a condition that is true changes nothing; a false one takes the next ticket, a search is made, and the job waits.
-use mathlib.Core.Path.{_≡_, refl, sym, ap, _∙_, subst}
+use mathlib.Core.Path.{_≡_, refl, sym, _∙_}
 use mathlib.Core.Bool.{Bool, true, false}
-use mathlib.Core.List.{List}
-use mathlib.Core.Option.{Option, none, some}
-use Prim.Native.Nat.{ℕ, suc, _+_, _*_, _<_, _≤_}
+use Prim.Native.Nat.{ℕ, _<_, _≤_}
 use native.Mathlib.Omega.{arith}
-use lib.Dec.{leb}
-use borrow.Author.Tests.{eq-eqb, ne-eqb, le-leb, lt-leb}
-use lib.IntN.{ℤ}
-use lib.ListN.{getD, set, length}
+use borrow.Author.Tests.{eq-eqb, ne-eqb, le-leb}
+use lib.ListN.{getD, length}
 use Rattle.rules.specs.Limits.{tickets, coefficientMost, valueMost}
-use Rattle.rules.specs.Condition.{Condition, Given, closure, conditionTrue}
-use Rattle.rules.specs.Room.{Room, isInside, standing, stand, now, giveTicket}
-use Rattle.rules.specs.Search.{Pair}
-use Rattle.rules.specs.Step.{Event, wait, call, step}
+use Rattle.rules.specs.Condition.{Condition, closure, conditionTrue}
+use Rattle.rules.specs.Room.{isInside, standing, now}
+use Rattle.rules.specs.Step.{Event, wait}
 use Rattle.condition.specs.Measures.{AllIn, nowAt}
-use Rattle.condition.specs.Closing.{ClosedSlots, GivenSlots, putClosed}
-use Rattle.condition.specs.Closes.{conditionIn, givenCondition}
-use Rattle.room.specs.Arrays.{Arrays, arrays, roomOf}
+use Rattle.condition.specs.Closing.{GivenSlots}
+use Rattle.condition.specs.Closes.{givenCondition}
+use Rattle.room.specs.Arrays.{Arrays, roomOf}
 use Rattle.room.specs.Kept.{Sound}
 use Rattle.room.specs.Steps.{Stepped}
 use Rattle.room.specs.Assigns.{inside-test}
 use Rattle.room.specs.Searches.{true-same}
-use Rattle.room.specs.declared.report.Report.{Report}
 use Rattle.room.specs.declared.report.Report.the-variants.{Accepted, Refused}
 
 -- a Wait's numbers keep to document 01's ranges, in a room with so many measures

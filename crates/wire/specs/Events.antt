@@ -1,6 +1,6 @@
 -- An event is read in two parts, its head and, of a Wait, its numbers: together they are the rules' event, on every byte string from any
 -- place.
-use mathlib.Core.Path.{_≡_, refl, sym, ap, _∙_, subst}
+use mathlib.Core.Path.{_≡_, refl, sym, ap, _∙_}
 use mathlib.Core.Bool.{Bool, true, false}
 use mathlib.Core.List.{List, [], _∷_}
 use Prim.Native.Nat.{ℕ, _≤_}
@@ -14,7 +14,6 @@ use Rattle.rules.specs.Number.{Read, read, refused, pure, after, times, field, 
 use Rattle.rules.specs.Condition.{Given}
 use Rattle.rules.specs.Record.{value, condition, ofKind, event}
 use Rattle.rules.specs.Step.{Event, arrive, admit, assign, wait, leave}
-use Rattle.rules.specs.Laws.In.{byBool}
 use Rattle.rules.specs.Laws.Readers.{Sound, sound-field, sound-below, sound-signed}
 use Rattle.fields.specs.Answers.{placeOf}
 use Rattle.wire.specs.Heads.{headAt, kindRead, jobRead, setHead, variableRead, valueRead}

@@ -1,5 +1,5 @@
 -- Numbers read one after the other into slots are the rules' `times`.
-use mathlib.Core.Path.{_≡_, refl, sym, ap, _∙_}
+use mathlib.Core.Path.{_≡_, refl, ap, _∙_}
 use mathlib.Core.List.{List, [], _∷_}
 use Prim.Native.Nat.{ℕ, suc, _+_, _-_, _≤_}
 use lib.IntN.{ℤ}
@@ -9,7 +9,7 @@ use Rattle.rules.specs.Number.{times, signedField}
 use Rattle.rules.specs.Laws.Readers.{Sound, sound-signed, sound-times}
 use Rattle.rules.specs.Laws.WellFormed.{Numbers}
 use Rattle.fields.specs.Answers.{asSigned, signedRefusal}
-use Rattle.wire.specs.Into.{Into, Told, told, putAll, all-none, all-no, all-more}
+use Rattle.wire.specs.Into.{Into, Told, putAll, all-none, all-no, all-more}
 use Rattle.fields.specs.Places.{signed-read, signed-refused}
 use Rattle.fields.specs.declared.field.Signed.{Signed}
 use Rattle.fields.specs.declared.field.Signed.the-variants as signed

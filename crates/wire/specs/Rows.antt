@@ -1,9 +1,8 @@
 -- Rows of numbers read one after the other are the numbers of all rows: reading n times k of them is reading n * k.
 use mathlib.Core.Path.{_≡_, refl, sym, ap, _∙_}
-use mathlib.Core.List.{List, [], _∷_, _++_, append-assoc}
+use mathlib.Core.List.{List, [], _∷_, _++_}
 use Prim.Native.Nat.{ℕ, zero, suc, _+_, _*_}
 use native.Mathlib.Nat.{zero-add, suc-add, zero-mul, suc-mul, add-comm}
-use lib.ListN.{length}
 use Rattle.rules.specs.Base.{gather}
 use Rattle.rules.specs.Number.{Read, read, refused, Reader, pure, after, _>>=_, times}
 

@@ -1,7 +1,7 @@
 -- The numbers of a Wait in lent slots: what each slot holds, and that the code's way of reading is the rules'.
 use mathlib.Core.Path.{_≡_, refl, sym, ap, _∙_}
 use mathlib.Core.List.{List, [], _∷_, _++_, append-nil}
-use Prim.Native.Nat.{ℕ, suc, _+_, _*_, _-_, _≤_, _<_}
+use Prim.Native.Nat.{ℕ, _+_, _*_, _-_, _≤_, _<_}
 use native.Mathlib.Omega.{arith}
 use lib.IntN.{ℤ, pos}
 use lib.ListN.{length, drop, set, replicate}
@@ -15,7 +15,7 @@ use Rattle.rules.specs.Laws.WellFormed.{GivenFits, Parts, sound-atom, sound-cou
 use Rattle.rules.specs.Laws.Readers.{Sound, sound-field, sound-below, sound-times, read-same, read-refused, refused-same}
 use Rattle.fields.specs.Answers.{placeOf, asNumber, refusalIn}
 use Rattle.wire.specs.Answers.{placeRefusal}
-use Rattle.wire.specs.Into.{Into, told, told-no, putAll, all-none, all-no, all-more}
+use Rattle.wire.specs.Into.{Into, told, told-no, putAll, all-no, all-more}
 use Rattle.wire.specs.Numbers.{ReadInto, putNumbers, put-sets, numbers-sound}
 use Rattle.wire.specs.Openings.{stored-slots}
 use Rattle.fields.specs.Places.{ReadTo, place-after, number-read, number-refused}

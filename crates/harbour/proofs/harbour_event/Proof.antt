@@ -47,7 +47,7 @@ use Rattle.harbour.specs.Events.{event-taken}
 use Rattle.tally.specs.declared.Tally.{Tally}
 use Rattle.harbour.specs.declared.Room.{Room}
 use Rattle.harbour.specs.declared.report.Report.{Report}
-use Rattle.harbour.proofs.Fields.{Lot, Use, by-mut, by-shr, lotsOf, members, Loans, LastsOn, lftsOn, sharesOn, refsOn, valsOn, ownOn, lastsOn, restOn, after, toksOn, Held, lends-fields, fields-back}
+use Rattle.harbour.proofs.Fields.{Lot, by-mut, by-shr, lotsOf, members, Loans, LastsOn, lftsOn, sharesOn, refsOn, valsOn, ownOn, lastsOn, restOn, after, toksOn, Held, lends-fields, fields-back}
 use Rattle.harbour.proofs.Handed.{handed-all, handed-fit, handed-go}
 use Rattle.harbour.proofs.Plainly.{room-part}
 use Rattle.tally.proofs.Tally as T

@@ -42,7 +42,7 @@ use Rattle.harbour.specs.Rooms.{arraysOf}
 use Rattle.harbour.specs.Openings.{OpensRoom}
 use Rattle.harbour.specs.declared.Room.{Room}
 use Rattle.harbour.specs.declared.report.Opened.{Opened}
-use Rattle.harbour.proofs.Fields.{Lot, Use, by-mut, lotsOf, members, Loans, LastsOn, lftsOn, sharesOn, refsOn, valsOn, ownOn, lastsOn, restOn, after, toksOn, Held, lends-fields, fields-back}
+use Rattle.harbour.proofs.Fields.{Lot, by-mut, lotsOf, members, Loans, LastsOn, lftsOn, sharesOn, refsOn, valsOn, ownOn, lastsOn, restOn, after, toksOn, Held, lends-fields, fields-back}
 use Rattle.harbour.proofs.Handed.{handed-all, handed-fit, handed-go}
 use Rattle.harbour.proofs.Plainly.{room-part}
 use Rattle.harbour.proofs.Room as S

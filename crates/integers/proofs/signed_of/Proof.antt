@@ -4,12 +4,12 @@ use Prim.Native.Nat.{ℕ, zero, suc, _<_, _/_, _%_}
 use borrow.Author.Tests.{eq-eqb, ne-eqb}
 use borrow.Author.Needs.{needs}
 use lib.Dec.{lit<}
-use lib.IntN.{ℤ, pos, negsuc, _-ℤ_}
+use lib.IntN.{pos, negsuc, _-ℤ_}
 use mir.Syntax.{w64}
 use mir.Val.{SFits}
 use native.Mathlib.Omega.{arith}
 use Rattle.integers.specs.Machine.{Holds, is, held, held-nat, op-fits, op-held}
-use Rattle.rules.specs.Laws.Bounds.{Within, in-sub}
+use Rattle.rules.specs.Laws.Bounds.{in-sub}
 use Rattle.integers.proofs.signed_of.Statement.{statement}
 use Rattle.integers.proofs.signed_of.Tie as tie
 

@@ -1,19 +1,18 @@
 -- Demand 1: every byte string gets an answer or a numbered refusal, and a refused event, like one of which no byte is left, gives back
 -- the same room and tally. A reader refuses with 1 to 4 and has then taken nothing; a step refuses with 5 to 7 and hands its room out.
-use mathlib.Core.Path.{_≡_, refl, sym, ap, _∙_}
+use mathlib.Core.Path.{_≡_, refl, ap}
 use mathlib.Core.Logic.{_⊎_, inl, inr}
 use mathlib.Core.List.{List, [], _∷_}
-use mathlib.Core.Option.{Option, none, some}
 use Prim.Native.Nat.{ℕ, _≤_}
 use native.Mathlib.Omega.{arith}
 use lib.ListN.{length}
 use Rattle.rules.specs.Number.{Read, read, refused}
 use Rattle.rules.specs.Room.{Room}
-use Rattle.rules.specs.Step.{Event, Step, Report, accepted, refusal, nothing, step}
+use Rattle.rules.specs.Step.{Event, Step, Report, accepted, refusal, nothing}
 use Rattle.rules.specs.Record.{opening, event}
-use Rattle.rules.specs.Tally.{Tally, note, Taken, taken, take}
-use Rattle.rules.specs.Laws.Readers.{Took, Sound}
-use Rattle.rules.specs.Laws.WellFormed.{Opening, sound-opening, EventFits, sound-event}
+use Rattle.rules.specs.Tally.{Tally, note, taken, take}
+use Rattle.rules.specs.Laws.Readers.{Took}
+use Rattle.rules.specs.Laws.WellFormed.{Opening, sound-opening, sound-event}
 use Rattle.rules.specs.Laws.Moves as moves
 
 -- ---- events

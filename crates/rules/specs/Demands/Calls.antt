@@ -1,7 +1,7 @@
 -- Demand 2: a search calls a job only if its condition is true, and nobody exactly if no waiting job's condition is true.
 -- The pair found is in the list of true pairs, and a true condition has a true alternative, whose pair is in that list.
 use mathlib.Core.Path.{_≡_, refl, sym, ap, _∙_}
-use mathlib.Core.Logic.{_⊎_, inl, inr, _↔_}
+use mathlib.Core.Logic.{_⊎_, _↔_}
 use mathlib.Core.Bool.{Bool, true, false}
 use mathlib.Core.List.{List}
 use mathlib.Core.Option.{Option, none, some}

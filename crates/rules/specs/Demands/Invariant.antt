@@ -2,16 +2,16 @@
 -- is inside, tickets apart and below the next, conditions that fit the room, and the relay. Proved for each move.
 use mathlib.Core.Path.{_≡_, refl, sym, ap, _∙_, subst}
 use mathlib.Core.Logic.{_⊎_, inl, inr}
-use mathlib.Core.Bool.{Bool, true, false}
+use mathlib.Core.Bool.{false}
 use mathlib.Core.List.{List, [], _∷_}
 use mathlib.Core.Option.{Option, none, some}
 use Prim.Native.Nat.{ℕ, zero, suc, _≤_, _<_}
 use native.Mathlib.Omega.{arith}
 use lib.IntN.{ℤ}
-use lib.ListN.{getD, set, length, length-set, length-replicate}
+use lib.ListN.{set, length, length-set, length-replicate}
 use Rattle.rules.specs.Limits.{jobs, variables, measuresMost, valueMost, coefficientMost, tickets}
 use Rattle.rules.specs.Condition.{Condition, closure}
-use Rattle.rules.specs.Room.{Room, Standing, outside, door, inside, waiting, called, opened, standing, isInside, stand, store, giveTicket}
+use Rattle.rules.specs.Room.{Room, Standing, outside, door, inside, waiting, called, standing, isInside, stand, store, giveTicket}
 use Rattle.rules.specs.Search.{Pair}
 use Rattle.rules.specs.Step.{Event, Step, call, step}
 use Rattle.rules.specs.Laws.In.{true-not-false}

@@ -1,19 +1,18 @@
 -- A listing has a line for every event: the bound on their number that `lines` recurses on is never met, since each event takes bytes.
-use mathlib.Core.Path.{_≡_, refl, sym, ap, _∙_}
+use mathlib.Core.Path.{_≡_, refl, ap}
 use mathlib.Core.Logic.{_⊎_, inl, inr}
-use mathlib.Core.Bool.{Bool, true, false}
-use mathlib.Core.List.{List, [], _∷_}
-use mathlib.Core.Option.{Option}
-use Prim.Native.Nat.{ℕ, zero, suc, _<_, _≤_, _+_}
+use mathlib.Core.Bool.{false}
+use mathlib.Core.List.{List}
+use Prim.Native.Nat.{ℕ, zero, suc, _<_, _≤_}
 use native.Mathlib.Omega.{arith}
 use lib.Dec.{leb}
 use lib.ListN.{length, length-drop}
 use borrow.Author.Tests.{leb-false}
 use Rattle.rules.specs.Room.{Room}
-use Rattle.rules.specs.Step.{Outcome, Report, accepted, refusal, nothing}
+use Rattle.rules.specs.Step.{Report, accepted, refusal, nothing}
 use Rattle.rules.specs.Tally.{take}
 use Rattle.rules.specs.Listing.{lines, reported, line, text, decimal, _␣_, job, word}
-use Rattle.rules.specs.Laws.In.{byBool, true-not-false}
+use Rattle.rules.specs.Laws.In.{byBool}
 use Rattle.rules.specs.Laws.Readers.{Took}
 use Rattle.rules.specs.Demands.Answers.{Answers, every-event-is-answered}
 

@@ -1,8 +1,8 @@
 -- "From any accepted opening, after any events in any order, refused ones among them": every such room keeps the invariant, and with it
 -- the relay and the total order of ranks. By induction over the list of byte strings that are given as events.
-use mathlib.Core.Path.{_≡_, refl, sym, ap, _∙_, subst}
-use mathlib.Core.Logic.{_⊎_, inl, inr}
-use mathlib.Core.Bool.{Bool, true}
+use mathlib.Core.Path.{_≡_, refl, subst}
+use mathlib.Core.Logic.{_⊎_}
+use mathlib.Core.Bool.{true}
 use mathlib.Core.List.{List, [], _∷_}
 use Prim.Native.Nat.{ℕ}
 use lib.ListN.{length}
@@ -10,7 +10,7 @@ use Rattle.rules.specs.Number.{Read, read, refused}
 use Rattle.rules.specs.Rank.{before}
 use Rattle.rules.specs.Room.{Room}
 use Rattle.rules.specs.Search.{Pair, pairs}
-use Rattle.rules.specs.Step.{Event, step}
+use Rattle.rules.specs.Step.{Event}
 use Rattle.rules.specs.Record.{opening, event}
 use Rattle.rules.specs.Tally.{taken, take}
 use Rattle.rules.specs.Laws.In.{In}

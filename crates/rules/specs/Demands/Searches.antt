@@ -1,20 +1,19 @@
 -- Demands 2 and 3: which events make a search, and what those and the others report. A search reports the job found and the evaluated
 -- count over the jobs that wait when it begins; an event without one reports no call and count 0.
 use mathlib.Core.Path.{_≡_, refl, sym, ap, _∙_}
-use mathlib.Core.Logic.{_⊎_, inl, inr, _↔_}
-use mathlib.Core.Bool.{Bool, true, false}
+use mathlib.Core.Logic.{_⊎_, _↔_}
+use mathlib.Core.Bool.{true, false}
 use mathlib.Core.List.{List}
 use mathlib.Core.Option.{Option, none, some}
 use Prim.Native.Nat.{ℕ, _<_}
 use native.Mathlib.Omega.{arith}
-use lib.Dec.{leb}
 use lib.IntN.{ℤ}
 use borrow.Author.Tests.{lt-leb}
 use Rattle.rules.specs.Limits.{tickets}
 use Rattle.rules.specs.Condition.{Given, Condition, closure, conditionTrue}
 use Rattle.rules.specs.Room.{Room, Standing, inside, waiting, called, standing, now, stand, giveTicket}
 use Rattle.rules.specs.Search.{Pair, evaluated}
-use Rattle.rules.specs.Step.{Event, arrive, admit, assign, wait, leave, Report, Step, calledIn, countIn, call, jobOf, occupied, step}
+use Rattle.rules.specs.Step.{Event, admit, wait, leave, Step, calledIn, countIn, call, jobOf, occupied, step}
 use Rattle.rules.specs.Laws.In.{none-some, some-same}
 use Rattle.rules.specs.Laws.Waiting.{waitersOf}
 use Rattle.rules.specs.Laws.Stores.{kind}

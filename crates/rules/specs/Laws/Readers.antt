@@ -8,10 +8,10 @@ use native.Mathlib.Omega.{arith}
 use lib.Dec.{leb, ltb}
 use lib.ListN.{length, drop, length-drop}
 use lib.Seq.{drop-drop}
-use lib.IntN.{ℤ, natAbs}
+use lib.IntN.{natAbs}
 use borrow.Author.Tests.{leb-true, ltb-true}
 use Rattle.rules.specs.Number.{Read, read, refused, Reader, pure, only, after, _>>=_, times, badGroup, groups, number, signed, field, below, signedField}
-use Rattle.rules.specs.Laws.In.{true-not-false, both}
+use Rattle.rules.specs.Laws.In.{both}
 use Rattle.rules.specs.Laws.Bounds.{Within, Each}
 
 -- the rest is what is left after so many bytes of the front

@@ -2,7 +2,6 @@
 -- every such has one.
 use mathlib.Core.Path.{_≡_, refl, sym, ap, _∙_}
 use mathlib.Core.Logic.{_⊎_, inl, inr}
-use mathlib.Core.Bool.{Bool, true, false}
 use mathlib.Core.List.{List, [], _∷_}
 use Prim.Native.Nat.{ℕ, zero, suc, _+_}
 use native.Mathlib.Omega.{arith}
@@ -11,7 +10,7 @@ use Rattle.rules.specs.Condition.{Atom, Condition}
 use Rattle.rules.specs.Rank.{rank}
 use Rattle.rules.specs.Room.{Room, Standing, outside, door, inside, waiting, called, standing}
 use Rattle.rules.specs.Search.{Waiter, Pair, waiter, waiters, pairsOf, pairs}
-use Rattle.rules.specs.Laws.In.{In, gather-in, in-gather, in-left, in-right, in-append}
+use Rattle.rules.specs.Laws.In.{In, in-gather, in-left, in-right, in-append}
 
 -- ---- pairs
 pub pairsOf-in : (w : Waiter) (p : Pair) (place : ℕ) (c : Condition) → In p (pairsOf w place c) → (p .waiter ≡ w) × In (p .alternative) c

@@ -1,14 +1,14 @@
 -- What every record that is read, and every closed condition, keeps to: document 01's ranges. A key is a sum of four products and
 -- a constant, so it stays within its own range.
-use mathlib.Core.Path.{_≡_, refl, ap}
+use mathlib.Core.Path.{_≡_, refl}
 use mathlib.Core.List.{List, [], _∷_, map}
-use Prim.Native.Nat.{ℕ, _+_, _*_, _≤_, _<_}
+use Prim.Native.Nat.{ℕ, _≤_, _<_}
 use native.Mathlib.Omega.{arith}
 use lib.IntN.{ℤ}
 use lib.ListN.{length, length-map}
 use Rattle.rules.specs.Limits.{jobs, variables, measuresMost, valueMost, coefficientMost, locals, partsMost, kindMost, operatorMost, measureMost, keyMost}
 use Rattle.rules.specs.Number.{Reader, field, below, times, pure, _>>=_}
-use Rattle.rules.specs.Condition.{Given, Atom, Condition, products, close, closure}
+use Rattle.rules.specs.Condition.{Given, Atom, Condition, close, closure}
 use Rattle.rules.specs.Room.{Room, opened, measured}
 use Rattle.rules.specs.Step.{Event, arrive, admit, assign, wait, leave}
 use Rattle.rules.specs.Record.{value, coefficient, counted, opening, atom, condition, ofKind, event}

@@ -1,7 +1,7 @@
 -- `search` meets its contract: what it walks is, for an index that keeps its invariant, the rules' search.
 use borrow.Author.Needs.{needs}
 use mathlib.Core.Path.{ap, _∙_}
-use Rattle.search.specs.Indexed.{Indexed, searchable}
+use Rattle.search.specs.Indexed.{searchable}
 use Rattle.search.specs.Prepared.{prepared}
 use Rattle.search.specs.Rules.{search-is-the-rules-search, walked-order}
 use Rattle.search.specs.Answers.{asAnswer}

@@ -1,14 +1,11 @@
 -- `search_rest` meets its contract: the heaps are walked, and if nobody is found there, the row without tags.
 use borrow.Author.Needs.{needs}
-use mathlib.Core.Path.{_≡_, ap, _∙_}
+use mathlib.Core.Path.{_∙_}
 use native.Mathlib.Omega.{arith}
 use Rattle.condition.specs.Measures.{nowAt}
 use Rattle.nodes.specs.Ranks.{rank}
-use Rattle.homes.specs.Regions.{region}
-use Rattle.walk.specs.Walks.{nodeTrue, walked}
 use Rattle.drain.specs.Drained.{nodeTag}
-use Rattle.search.specs.Stretches.{lists, after, then-found, then-next, count-most, nobody-most}
-use Rattle.search.specs.Heaps.{thresholds}
+use Rattle.search.specs.Stretches.{then-found, then-next, count-most, nobody-most}
 use Rattle.search.specs.Prepared.{thresholds-long, untagged-long, untagged-told}
 use Rattle.search.proofs.search_rest.Statement.{statement}
 use Rattle.search.proofs.search_rest.Tie as tie

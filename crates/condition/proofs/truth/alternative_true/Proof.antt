@@ -1,6 +1,6 @@
 -- `alternative_true` meets its contract: the atoms passed were true, so the whole is what is left of it.
 use mathlib.Core.Path.{_≡_}
-use Prim.Native.Nat.{_≤_, _-_, _+_, _*_}
+use Prim.Native.Nat.{_≤_, _-_}
 use borrow.Author.Needs.{needs}
 use Rattle.rules.specs.Condition.{atomTrue, alternativeTrue}
 use Rattle.condition.specs.Along.{allLeft, all-more, all-stop, all-done}

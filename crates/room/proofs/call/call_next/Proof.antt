@@ -3,8 +3,6 @@ use borrow.Author.Needs.{needs}
 use mathlib.Core.Path.{sym, _∙_}
 use native.Mathlib.Omega.{arith}
 use Rattle.condition.specs.Measures.{nowAt}
-use Rattle.condition.specs.Closing.{closedSlots}
-use Rattle.room.specs.Arrays.{Arrays, arrays}
 use Rattle.room.specs.Calls.{indexed, calls-nobody, called-small, called-waits, calls-one}
 use Rattle.room.proofs.call.call_next.Statement.{statement}
 use Rattle.room.proofs.call.call_next.Tie as tie

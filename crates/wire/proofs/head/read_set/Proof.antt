@@ -1,6 +1,5 @@
 -- `read_set` meets its contract: one law for each answer.
 use borrow.Author.Needs.{needs}
-use Rattle.integers.specs.Machine.{back}
 use Rattle.wire.specs.Heads.{set-no-variable, set-no-value, set-read}
 use Rattle.wire.proofs.head.read_set.Statement.{statement}
 use Rattle.wire.proofs.head.read_set.Tie as tie

@@ -4,7 +4,7 @@ use borrow.Author.Needs.{needs}
 use borrow.Fn.Kinds.{In}
 use borrow.Fn.PlainCycle.{Measures, is, falls, and}
 use native.Mathlib.Omega.{arith}
-use Rattle.rules.specs.Record.{atom, counted}
+use Rattle.rules.specs.Record.{atom}
 use Rattle.rules.specs.Laws.WellFormed.{sound-atom, sound-counted}
 use Rattle.wire.specs.Into.{all-none}
 use Rattle.wire.specs.Waits.{putAlternative, alternatives-no-count, atoms-few, alternatives-no-atoms, row-within, alternatives-more}
