@@ -28,7 +28,7 @@ use Rattle.fields.specs.Answers.{placeOf}
 use Rattle.tally.specs.Added.{tallyOf, tallyOf-one}
 use Rattle.tally.specs.declared.Tally.{Tally}
 use Rattle.room.specs.Kept.{Kept}
-use Rattle.room.specs.Opens.{emptyWith, opened-means, refused-means}
+use Rattle.opening.specs.Opens.{emptyWith, opened-means, refused-means}
 use Rattle.event.specs.Takes.{take-read, measures-many}
 use Rattle.harbour.specs.Rooms.{arraysOf, meaning}
 use Rattle.harbour.specs.Openings.{OpensRoom, openedNumbers, toldOpening}

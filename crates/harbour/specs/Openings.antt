@@ -7,7 +7,7 @@ use Rattle.fields.specs.declared.number.Number.{Number}
 use Rattle.fields.specs.declared.number.Number.the-variants.{Got, Refused}
 use Rattle.wire.specs.Openings.{asOpening, coefficientsOf, valuesOf}
 use Rattle.room.specs.Arrays.{Arrays, arrays}
-use Rattle.room.specs.Opens.{Opens, emptyWith, measuresIn}
+use Rattle.opening.specs.Opens.{Opens, emptyWith, measuresIn}
 use Rattle.harbour.specs.declared.report.Opened.{Opened}
 
 abbrev pub openedNumbers : ℕ → ℕ → ℕ → Opened

@@ -3,7 +3,7 @@ ghost use mathlib.Core.Path.{_≡_};
 ghost use Rattle.condition.specs.Closing.{closedSlots};
 ghost use Rattle.room.specs.Arrays.{arrays};
 ghost use Rattle.room.specs.Kept.{Kept};
-ghost use Rattle.room.specs.Opens.{measuresIn};
+ghost use Rattle.opening.specs.Opens.{measuresIn};
 ghost use Rattle.harbour.specs.Openings.{OpensRoom, toldOpening};
 ghost use Rattle.harbour.specs.Reports.{Reports};
 use crate::report::Opened;
@@ -11,7 +11,7 @@ use crate::report::Report;
 use crate::report::told;
 use event::event;
 use fields::number::Number;
-use room::open::open;
+use opening::open;
 
 fn measures_in(answer: Number) -> usize
     ensures { λ r. ⌜ r ≡ measuresIn answer ⌝ }

@@ -19,7 +19,7 @@ use Rattle.fields.specs.declared.number.Number.the-variants.{Got, Refused}
 use Rattle.condition.specs.Closing.{ClosedSlots}
 use Rattle.room.specs.Arrays.{Arrays, arrays}
 use Rattle.room.specs.Kept.{Kept}
-use Rattle.room.specs.Opens.{Opens, measuresIn, opened-means, refused-means}
+use Rattle.opening.specs.Opens.{Opens, measuresIn, opened-means, refused-means}
 use Rattle.listing.specs.Output.{Output, output, filled, Writes, writes, _then_, fills}
 use Rattle.listing.specs.Lines.{line-after}
 use Rattle.listing.specs.Turns.{linesFrom}

@@ -5,7 +5,7 @@ ghost use Rattle.listing.specs.Output.{output, Writes};
 use crate::events::write_events;
 use crate::line::put_line;
 use fields::number::Number;
-use room::open::open;
+use opening::open;
 
 pub fn write_stream(out: &mut [u8], input: &[u8]) -> usize
     ensures { λ r. ⌜ Writes (output (now (out .entry)) 0) (output (now (out .exit)) r) (run (opening (now (input .entry)))) ⌝ }

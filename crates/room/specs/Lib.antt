@@ -10,9 +10,5 @@ pub mod Steps
 pub mod Arrives
 pub mod Assigns
 pub mod Searches
-pub mod Leaves
 pub mod Occupied
-pub mod Admits
-pub mod OpensRows
-pub mod OpensNobody
-pub mod Opens
+pub mod Joins

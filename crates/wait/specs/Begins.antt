@@ -35,7 +35,7 @@ use Rattle.room.specs.Tickets.{withNext, calls-next}
 use Rattle.room.specs.Reports.{meaning, searchReport, search-not, Plain}
 use Rattle.room.specs.Steps.{Stepped}
 use Rattle.room.specs.Searches.{waitingIn, search-room, search-report, search-plain, search-others, search-held}
-use Rattle.room.specs.Admits.{MayJoin}
+use Rattle.room.specs.Joins.{MayJoin}
 use Rattle.room.specs.Assigns.{inside-test}
 use Rattle.wait.specs.Stored.{stored-sized, stored-fit, stored-counts, stored-same, stored-conditions, words-long, words-here, words-elsewhere}
 use Rattle.wait.specs.Waits.{GivenFit, waitsFor, waitEvent, true-is}

@@ -1,0 +1,2 @@
+-- Admit steps as the rules do.
+pub mod Admits

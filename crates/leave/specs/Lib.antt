@@ -1,0 +1,2 @@
+-- Leave steps as the rules do.
+pub mod Leaves
