@@ -11,6 +11,7 @@ use tally::Tally;
 pub mod arrays;
 pub mod looks;
 pub mod report;
+pub mod streams;
 
 use arrays::take_event;
 use arrays::take_opening;
