@@ -9,13 +9,13 @@ use lib.Dec.{eqb}
 use borrow.Author.Tests.{eqb-true, eq-eqb, ne-eqb, ltb-false, lt-ltb}
 use lib.ListN.{getD, set, length-set}
 use lib.Seq.{getD-set-same, getD-set-other}
+use Rattle.rules.specs.Laws.Cases.{byEq}
 use Rattle.rules.specs.Condition.{conditionTrue}
 use Rattle.rules.specs.Room.{standing, stand, door, inside, waiting, called, now}
 use Rattle.rules.specs.Step.{Step, admit, admitted, occupied, refuse, step}
 use Rattle.condition.specs.Measures.{nowAt}
 use Rattle.condition.specs.Closing.{ClosedSlots}
 use Rattle.condition.specs.Closes.{conditionIn}
-use Rattle.nodes.specs.Counts.{byEq}
 use Rattle.entries.specs.Entries.{Waits}
 use Rattle.index.specs.Changes.{WordsOf, JoinedIndex}
 use Rattle.search.specs.declared.Answer.{Answer}

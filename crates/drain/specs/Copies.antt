@@ -6,7 +6,7 @@ use Prim.Native.Nat.{ℕ, zero, suc, _+_, _-_, _<_, _≤_}
 use native.Mathlib.Omega.{arith}
 use lib.ListN.{getD, set, length, length-set}
 use lib.Seq.{getD-set-same, getD-set-other}
-use Rattle.nodes.specs.Counts.{byEq}
+use Rattle.rules.specs.Laws.Cases.{byEq}
 use Rattle.nodes.specs.Order.{Ordered}
 use Rattle.nodes.specs.Holes.{value}
 use Rattle.nodes.specs.Sorted.{sorted, Apart}

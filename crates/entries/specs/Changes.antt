@@ -5,7 +5,7 @@ use Prim.Native.Nat.{ℕ, _+_, _<_, _≤_}
 use native.Mathlib.Omega.{arith}
 use lib.ListN.{getD, set, length, length-set, List·getD-eq-default}
 use lib.Seq.{getD-set-same, getD-set-other}
-use Rattle.entries.specs.Cases.{byEq, byLt}
+use Rattle.rules.specs.Laws.Cases.{byEq, byLt}
 use Rattle.entries.specs.Entries.{Waits}
 use Rattle.entries.specs.Renames.{renamed, renamed-other, Renamed}
 

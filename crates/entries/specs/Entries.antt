@@ -9,7 +9,7 @@ use lib.Dec.{eqb}
 use lib.ListN.{getD, length, List·getD-eq-default}
 use borrow.Author.Tests.{eq-eqb}
 use Rattle.rules.specs.Condition.{Condition}
-use Rattle.entries.specs.Cases.{byLt}
+use Rattle.rules.specs.Laws.Cases.{byLt}
 
 -- job j is in the index
 abbrev pub Waits : List ℕ → ℕ → Type 0

@@ -4,7 +4,7 @@ use mathlib.Core.Bool.{Bool, true, false}
 use Prim.Native.Nat.{ℕ, _+_, _<_, _≤_}
 use native.Mathlib.Omega.{arith}
 use Rattle.rules.specs.Laws.In.{true-not-false}
-use Rattle.entries.specs.Cases.{byEq, byLt}
+use Rattle.rules.specs.Laws.Cases.{byEq, byLt}
 
 -- the test holds at none of the first i places
 unfoldable pub Nowhere : (ℕ → Bool) → ℕ → Type 0

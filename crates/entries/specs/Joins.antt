@@ -10,7 +10,7 @@ use lib.ListN.{getD, length}
 use borrow.Author.Tests.{eq-eqb, ne-eqb}
 use Rattle.rules.specs.Base.{if_then_else_}
 use Rattle.rules.specs.Condition.{Condition}
-use Rattle.entries.specs.Cases.{byEq}
+use Rattle.rules.specs.Laws.Cases.{byEq}
 use Rattle.entries.specs.Entries.{Waits, isLead, Led, Entries, led-named}
 use Rattle.entries.specs.Changes.{Change, stay, new}
 use Rattle.entries.specs.declared.Joined.{Joined}

@@ -1,5 +1,4 @@
 -- Who waits, who leads an entry, what the searches over the jobs find, and what joining and parting change.
-pub mod Cases
 pub mod Entries
 pub mod Firsts
 pub mod Alike

@@ -8,7 +8,7 @@ use lib.Dec.{eqb, ltb}
 use lib.ListN.{getD}
 use borrow.Author.Tests.{eq-eqb, ne-eqb, lt-ltb, le-ltb}
 use Rattle.rules.specs.Base.{if_then_else_}
-use Rattle.entries.specs.Cases.{byEq, byLt}
+use Rattle.rules.specs.Laws.Cases.{byEq, byLt}
 
 -- the job k, or the best of those before it; 32 is none
 abbrev pub chosen : List ℕ → List ℕ → ℕ → ℕ → ℕ → ℕ

@@ -8,7 +8,7 @@ use lib.ListN.{getD, set, length}
 use lib.Seq.{getD-set-same, getD-set-other}
 use borrow.Author.Tests.{eq-eqb, ne-eqb}
 use Rattle.rules.specs.Condition.{Condition}
-use Rattle.entries.specs.Cases.{byEq}
+use Rattle.rules.specs.Laws.Cases.{byEq}
 use Rattle.entries.specs.Entries.{Waits, isLead, Entries, Distinct, led-named, waits-below, one-condition, one-entry}
 use Rattle.entries.specs.Renames.{renamed, renamed-same, renamed-other}
 use Rattle.entries.specs.Changes.{Change}

@@ -8,7 +8,7 @@ use lib.ListN.{getD, set, length, length-set}
 use lib.Seq.{getD-set-same, getD-set-other}
 use borrow.Author.Tests.{eq-eqb, ne-eqb}
 use Rattle.rules.specs.Base.{if_then_else_}
-use Rattle.entries.specs.Cases.{byEq}
+use Rattle.rules.specs.Laws.Cases.{byEq}
 
 abbrev pub renamed : ℕ → ℕ → ℕ → ℕ
 renamed old new x = if eqb x old then new else x

@@ -8,7 +8,7 @@ use lib.ListN.{getD}
 use borrow.Author.Tests.{eqb-true}
 use Rattle.rules.specs.Condition.{Condition}
 use Rattle.rules.specs.Laws.In.{true-not-false}
-use Rattle.entries.specs.Cases.{byEq}
+use Rattle.rules.specs.Laws.Cases.{byEq}
 use Rattle.entries.specs.Entries.{Waits, isLead, Entries, Distinct, one-entry}
 use Rattle.entries.specs.Unique.{index-unique}
 use Rattle.entries.specs.Joins.{JoinedSays, JoinedTo}

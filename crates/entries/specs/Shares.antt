@@ -8,7 +8,7 @@ use lib.Dec.{eqb}
 use lib.ListN.{getD}
 use borrow.Author.Tests.{eq-eqb, ne-eqb}
 use Rattle.rules.specs.Condition.{Condition}
-use Rattle.entries.specs.Cases.{byEq}
+use Rattle.rules.specs.Laws.Cases.{byEq}
 use Rattle.entries.specs.Entries.{Waits, isLead, Led, Entries, Distinct, one-condition, one-entry}
 use Rattle.entries.specs.Renames.{renamed, renamed-same, renamed-other}
 use Rattle.entries.specs.Changes.{Change, stay, new}

@@ -6,7 +6,7 @@ use native.Mathlib.Omega.{arith}
 use lib.ListN.{getD, length}
 use lib.Seq.{ext-getD}
 use Rattle.rules.specs.Condition.{Condition}
-use Rattle.entries.specs.Cases.{byLt}
+use Rattle.rules.specs.Laws.Cases.{byLt}
 use Rattle.entries.specs.Entries.{Waits, Led, Entries, Distinct}
 
 module _ (condition : ℕ → Condition) (ticket entry entry′ : List ℕ) (d : Distinct ticket entry) (q : Entries condition ticket entry) (q′ : Entries condition ticket entry′)

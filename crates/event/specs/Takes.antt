@@ -6,6 +6,7 @@ use Prim.Native.Nat.{ℕ, _≤_, _<_}
 use native.Mathlib.Omega.{arith}
 use lib.IntN.{ℤ}
 use lib.ListN.{length, drop, drop-of-length-le}
+use Rattle.rules.specs.Laws.Cases.{byLt}
 use Rattle.rules.specs.Limits.{valueMost}
 use Rattle.rules.specs.Number.{read, refused}
 use Rattle.rules.specs.Room.{Room}
@@ -22,7 +23,6 @@ use Rattle.rules.specs.Demands.Reached.{take-keeps}
 use Rattle.fields.specs.Answers.{placeOf}
 use Rattle.fields.specs.Places.{place-after}
 use Rattle.condition.specs.Closing.{from-many}
-use Rattle.nodes.specs.Counts.{byLt}
 use Rattle.wire.specs.Heads.{headAt}
 use Rattle.wire.specs.Events.{HeadMeans, head-means}
 use Rattle.wire.specs.declared.head.Head.{Head}

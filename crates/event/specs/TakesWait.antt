@@ -7,6 +7,7 @@ use Prim.Native.Nat.{ℕ, _≤_, _<_}
 use native.Mathlib.Omega.{arith}
 use lib.IntN.{ℤ}
 use lib.ListN.{getD, length, drop, List·getD-eq-default}
+use Rattle.rules.specs.Laws.Cases.{byEq, byLt}
 use Rattle.rules.specs.Number.{Read, read, refused, pure, after}
 use Rattle.rules.specs.Room.{isInside, standing}
 use Rattle.rules.specs.Step.{Event, wait, waited, step}
@@ -24,7 +25,6 @@ use Rattle.wire.specs.Waits.{WaitSlots, Body, numbers, asWait, localsOf, Waits}
 use Rattle.condition.specs.Closes.{conditionIn, givenCondition}
 use Rattle.given.specs.Taken.{givenIn, taken}
 use Rattle.given.specs.Taken as given
-use Rattle.nodes.specs.Counts.{byEq, byLt}
 use Rattle.room.specs.Arrays.{Arrays, standingAt, roomOf}
 use Rattle.room.specs.Kept.{Kept}
 use Rattle.room.specs.Standings.{standing-is, code-waiting, code-called}

@@ -8,12 +8,12 @@ use native.Mathlib.Omega.{arith}
 use lib.Dec.{eqb}
 use lib.ListN.{getD, length}
 use borrow.Author.Tests.{eq-eqb, ne-eqb, eqb-true}
+use Rattle.rules.specs.Laws.Cases.{byLt}
 use Rattle.rules.specs.Base.{if_then_else_}
 use Rattle.rules.specs.Condition.{Condition}
 use Rattle.rules.specs.Room.{Standing, outside, door, inside, waiting, called, standing}
 use Rattle.rules.specs.Step.{occupied}
 use Rattle.rules.specs.Laws.In.{byBool}
-use Rattle.nodes.specs.Counts.{byLt}
 use Rattle.condition.specs.Closes.{conditionIn}
 use Rattle.room.specs.Arrays.{standingOf, standingAt}
 use Rattle.room.specs.Kept.{Kept}

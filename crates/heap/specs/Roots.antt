@@ -2,7 +2,7 @@
 use mathlib.Core.Path.{_≡_, ap}
 use Prim.Native.Nat.{ℕ, zero, suc, _<_, _≤_}
 use native.Mathlib.Omega.{arith}
-use Rattle.nodes.specs.Counts.{byEq}
+use Rattle.rules.specs.Laws.Cases.{byEq}
 use Rattle.nodes.specs.Order.{Ordered}
 use Rattle.heap.specs.Places.{above}
 

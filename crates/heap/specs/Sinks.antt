@@ -7,7 +7,8 @@ use native.Mathlib.Omega.{arith}
 use borrow.Author.Tests.{ltb-true, ltb-false}
 use lib.ListN.{getD, set, length}
 use lib.Dec.{ltb}
-use Rattle.nodes.specs.Counts.{is, count-more, byEq}
+use Rattle.rules.specs.Laws.Cases.{byEq}
+use Rattle.nodes.specs.Counts.{is, count-more}
 use Rattle.nodes.specs.Order.{Ordered, Hole, Kids, From, hole-down, hole-end, hole-at, kids-at}
 use Rattle.nodes.specs.Holes.{value, Moved, Filled, moved-more, filled}
 use Rattle.nodes.specs.Rises.{InOrder, Risen, Removed, rises, rises-yes, rises-no}

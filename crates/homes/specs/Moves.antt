@@ -5,7 +5,8 @@ use Prim.Native.Nat.{ℕ, _+_, _*_, _-_, _<_, _≤_}
 use native.Mathlib.Omega.{arith}
 use lib.ListN.{getD, set, length, length-set, take, drop, length-drop}
 use lib.Seq.{getD-set-same, getD-set-other, length-take-le}
-use Rattle.nodes.specs.Counts.{count, is, count-find, count-same, byLt}
+use Rattle.rules.specs.Laws.Cases.{byLt}
+use Rattle.nodes.specs.Counts.{count, is, count-find, count-same}
 use Rattle.nodes.specs.Order.{Ordered}
 use Rattle.nodes.specs.Holes.{value}
 use Rattle.nodes.specs.Rises.{Pushed, Removed}

@@ -4,8 +4,8 @@ use mathlib.Core.Bool.{Bool, true, false}
 use Prim.Native.Nat.{ℕ, _<_, _≤_}
 use lib.Dec.{ltb}
 use borrow.Author.Tests.{lt-ltb, le-ltb}
+use Rattle.rules.specs.Laws.Cases.{byLt}
 use Rattle.nodes.specs.Rises.{Pushed, Removed}
-use Rattle.nodes.specs.Counts.{byLt}
 use Rattle.heap.specs.Places.{above, above-lt}
 use Rattle.rows.specs.Places.{previous, previous-lt}
 use mathlib.Core.List.{List}

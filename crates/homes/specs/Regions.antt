@@ -5,7 +5,7 @@ use Prim.Native.Nat.{ℕ, _+_, _*_, _-_, _<_, _≤_}
 use native.Mathlib.Omega.{arith}
 use lib.ListN.{getD, length, take, drop, length-append, length-drop, List·getD-append}
 use lib.Seq.{length-take-le, take-at, drop-at, getD-take, getD-drop, getD-append-add, ext-getD}
-use Rattle.nodes.specs.Counts.{byLt}
+use Rattle.rules.specs.Laws.Cases.{byLt}
 
 -- the places of home g
 abbrev pub region : List ℕ → ℕ → List ℕ

@@ -4,7 +4,8 @@ use mathlib.Core.List.{List}
 use Prim.Native.Nat.{ℕ, zero, suc, _+_, _*_, _/_, _<_, _≤_}
 use native.Mathlib.Omega.{arith}
 use lib.ListN.{getD}
-use Rattle.nodes.specs.Counts.{is, is-self, is-not, count, count-at, byEq}
+use Rattle.rules.specs.Laws.Cases.{byEq}
+use Rattle.nodes.specs.Counts.{is, is-self, is-not, count, count-at}
 
 -- f at every number below k
 unfoldable pub across : (ℕ → ℕ) → ℕ → ℕ

@@ -29,8 +29,8 @@ module _ (s : ClosedSlots) (ticket entry high low places lengths : List ℕ) (q 
       let same : x % 128 ≡ x / 4 * 4 + x % 4 = omega (arith, waits-below entry 32 (x / 4) (omega (arith, q .size)) w) in
       ap (λ (y : ℕ). getD low y 0) same ∙ q .words (x / 4) (x % 4) w (omega arith) .1
 
-  pub nodes-apart : ((k : ℕ) → getD low k 0 < 2 ^ 64) → (y z : ℕ) → isNode s entry y ≡ true → isNode s entry z ≡ true → rank high low y ≡ rank high low z → y ≡ z
-  nodes-apart fits y z f g e =
-      let l = two-low (getD high (y % 128) 0) (getD low (y % 128) 0) (getD high (z % 128) 0) (getD low (z % 128) 0) (fits (y % 128)) (fits (z % 128)) e in
+  pub nodes-apart : (y z : ℕ) → getD low (y % 128) 0 < 2 ^ 64 → getD low (z % 128) 0 < 2 ^ 64 → isNode s entry y ≡ true → isNode s entry z ≡ true → rank high low y ≡ rank high low z → y ≡ z
+  nodes-apart y z a b f g e =
+      let l = two-low (getD high (y % 128) 0) (getD low (y % 128) 0) (getD high (z % 128) 0) (getD low (z % 128) 0) a b e in
       let j : y / 4 ≡ z / 4 = q .distinct (y / 4) (z / 4) (waits-of y f) (waits-of z g) (omega (arith, l, low-of y f, low-of z g)) in
       omega (arith, j, l, low-of y f, low-of z g, ap (λ (u : ℕ). getD ticket u 0) j)

@@ -7,10 +7,10 @@ use Prim.Native.Nat.{ℕ, _<_, _≤_}
 use lib.Dec.{eqb}
 use lib.ListN.{getD, length}
 use borrow.Author.Tests.{eq-eqb, ne-eqb}
+use Rattle.rules.specs.Laws.Cases.{byEq}
 use Rattle.rules.specs.Base.{if_then_else_}
 use Rattle.rules.specs.Laws.In.{true-not-false}
 use Rattle.condition.specs.Closing.{ClosedSlots}
-use Rattle.nodes.specs.Counts.{byEq}
 use Rattle.homes.specs.Moves.{holds}
 use Rattle.index.specs.Filed.{homeIn, countIn}
 use Rattle.index.specs.Mine.{mine}

@@ -7,12 +7,12 @@ use native.Mathlib.Omega.{arith}
 use lib.Dec.{eqb, ltb}
 use lib.ListN.{getD, length}
 use borrow.Author.Tests.{eq-eqb, ne-eqb, eqb-true, lt-ltb, le-ltb}
+use Rattle.rules.specs.Laws.Cases.{byEq, byLt}
 use Rattle.rules.specs.Base.{if_then_else_}
 use Rattle.condition.specs.Closing.{ClosedSlots}
 use Rattle.condition.specs.Closes.{conditionIn}
 use Rattle.ranks.specs.Words.{highWord, lowWord}
 use Rattle.nodes.specs.Ranks.{rank}
-use Rattle.nodes.specs.Counts.{byEq, byLt}
 use Rattle.entries.specs.Entries.{Waits, isLead, waits-below}
 use Rattle.entries.specs.Joins.{joinedLead, JoinedTo}
 use Rattle.entries.specs.Parts.{partedLead, PartedFrom}

@@ -8,6 +8,7 @@ use native.Mathlib.Omega.{arith}
 use lib.Dec.{eqb, ltb}
 use lib.ListN.{getD}
 use borrow.Author.Tests.{eqb-true, ne-eqb}
+use Rattle.rules.specs.Laws.Cases.{byEq}
 use Rattle.rules.specs.Tag.{tag}
 use Rattle.rules.specs.Laws.In.{both}
 use Rattle.condition.specs.Closed.{alternativeAt}
@@ -16,7 +17,7 @@ use Rattle.condition.specs.Closes.{conditionIn}
 use Rattle.condition.specs.Tags.{tag-means}
 use Rattle.filing.specs.Homes.{home, home-means}
 use Rattle.ranks.specs.Words.{highWord, lowWord}
-use Rattle.nodes.specs.Counts.{bit, count-at, byEq}
+use Rattle.nodes.specs.Counts.{bit, count-at}
 use Rattle.nodes.specs.Order.{Ordered}
 use Rattle.nodes.specs.Ranks.{two, rank}
 use Rattle.homes.specs.Orders.{over, over-lt}

@@ -8,12 +8,12 @@ use native.Mathlib.Omega.{arith}
 use lib.Dec.{eqb, ltb}
 use lib.ListN.{getD}
 use borrow.Author.Tests.{eq-eqb, ne-eqb, lt-ltb}
+use Rattle.rules.specs.Laws.Cases.{byEq}
 use Rattle.rules.specs.Base.{if_then_else_}
 use Rattle.rules.specs.Laws.In.{byBool, both}
 use Rattle.condition.specs.Closing.{ClosedSlots}
 use Rattle.condition.specs.Tags.{tagAt}
 use Rattle.filing.specs.Homes.{home-at-below}
-use Rattle.nodes.specs.Counts.{byEq}
 use Rattle.homes.specs.Moves.{holds}
 use Rattle.index.specs.Filed.{homeIn, countIn, Filed}
 use Rattle.index.specs.Mine.{mine, mine-is, mine-other}

@@ -7,7 +7,8 @@ use native.Mathlib.Omega.{arith}
 use lib.Dec.{eqb}
 use lib.ListN.{getD, set, length}
 use lib.Seq.{getD-set-same, getD-set-other}
-use Rattle.nodes.specs.Counts.{bit, byEq}
+use Rattle.rules.specs.Laws.Cases.{byEq}
+use Rattle.nodes.specs.Counts.{bit}
 use Rattle.homes.specs.Moves.{holds, Put, Cut}
 use Rattle.condition.specs.Tags.{tagAt}
 use Rattle.filing.specs.Homes.{home-at-below}

@@ -5,8 +5,9 @@ use Prim.Native.Nat.{ℕ, _+_, _*_, _/_, _%_, _<_, _≤_}
 use native.Mathlib.Omega.{arith}
 use lib.Dec.{eqb, ltb}
 use borrow.Author.Tests.{eq-eqb, ne-eqb, eqb-true, lt-ltb, le-ltb, ltb-true}
+use Rattle.rules.specs.Laws.Cases.{byEq, byLt}
 use Rattle.rules.specs.Laws.In.{both}
-use Rattle.nodes.specs.Counts.{bit, byEq, byLt}
+use Rattle.nodes.specs.Counts.{bit}
 
 -- node x is among the first alternatives of a job
 abbrev pub mine : ℕ → ℕ → ℕ → Bool

@@ -8,9 +8,10 @@ use lib.Dec.{eqb}
 use lib.ListN.{getD, set, length, length-set}
 use lib.Seq.{getD-set-same, getD-set-other}
 use borrow.Author.Tests.{eq-eqb, ne-eqb}
+use Rattle.rules.specs.Laws.Cases.{byEq}
 use Rattle.condition.specs.Tags.{tagAt}
 use Rattle.filing.specs.Homes.{homeAt}
-use Rattle.nodes.specs.Counts.{bit, is, is-self, is-not, byEq}
+use Rattle.nodes.specs.Counts.{bit, is, is-self, is-not}
 use Rattle.homes.specs.Regions.{region}
 use Rattle.homes.specs.Moves.{holds, InOrder, Cleared, Put, Cut}
 use Rattle.index.specs.Mine.{mine}

@@ -5,11 +5,11 @@ use mathlib.Core.List.{List}
 use Prim.Native.Nat.{ℕ}
 use lib.Dec.{eqb}
 use borrow.Author.Tests.{eq-eqb, ne-eqb}
+use Rattle.rules.specs.Laws.Cases.{byEq}
 use Rattle.rules.specs.Base.{if_then_else_}
 use Rattle.condition.specs.Closing.{ClosedSlots}
 use Rattle.condition.specs.Closes.{conditionIn}
 use Rattle.nodes.specs.Ranks.{rank}
-use Rattle.nodes.specs.Counts.{byEq}
 use Rattle.entries.specs.Entries.{isLead}
 use Rattle.entries.specs.Parts.{partedLead, PartedFrom}
 use Rattle.entries.specs.declared.Parted.{Parted}

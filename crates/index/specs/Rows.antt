@@ -5,7 +5,8 @@ use Prim.Native.Nat.{ℕ, zero, suc, _*_, _<_, _≤_}
 use native.Mathlib.Omega.{arith}
 use lib.ListN.{getD, length, drop, length-drop}
 use lib.Seq.{length-take-le, ext-getD}
-use Rattle.nodes.specs.Counts.{is, count, count-find, count-at, byEq, byLt}
+use Rattle.rules.specs.Laws.Cases.{byEq, byLt}
+use Rattle.nodes.specs.Counts.{is, count, count-find, count-at}
 use Rattle.nodes.specs.Order.{Ordered}
 use Rattle.nodes.specs.Holes.{value}
 use Rattle.rows.specs.Places.{previous, earlier-first}

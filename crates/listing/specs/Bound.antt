@@ -10,7 +10,7 @@ use lib.Dec.{leb, ltb}
 use lib.ListN.{length, take as front, drop, length-append, length-drop}
 use lib.Seq.{take-all, length-take-le}
 use borrow.Author.Tests.{leb-false, ltb-false}
-use Rattle.nodes.specs.Counts.{byLt}
+use Rattle.rules.specs.Laws.Cases.{byLt}
 use Rattle.rules.specs.Limits.{streamMost}
 use Rattle.rules.specs.Number.{Read, read, refused}
 use Rattle.rules.specs.Room.{Room}

@@ -5,7 +5,7 @@ use mathlib.Core.List.{List, [], _∷_, _++_, append-assoc}
 use Prim.Native.Nat.{ℕ, zero, suc, _+_, _<_, _≤_, _/_, _%_}
 use native.Mathlib.Omega.{arith}
 use borrow.Author.Tests.{lt-ltb, le-ltb}
-use Rattle.nodes.specs.Counts.{byLt}
+use Rattle.rules.specs.Laws.Cases.{byLt}
 use Rattle.rules.specs.Listing.{digits, decimal}
 use Rattle.listing.specs.Output.{Output, Writes, writes, _then_}
 

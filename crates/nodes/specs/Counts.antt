@@ -5,25 +5,11 @@ use mathlib.Core.List.{List}
 use Prim.Native.Nat.{ℕ, zero, suc, _+_, _-_, _<_, _≤_}
 use native.Mathlib.Omega.{arith}
 use native.Mathlib.Numerals.{add-one}
-use native.Mathlib.Decide.{ℕ-discrete, decLt}
 use lib.ListN.{getD, set, length}
 use lib.Seq.{getD-set-same, getD-set-other}
 use lib.Dec.{eqb}
 use borrow.Author.Tests.{eq-eqb, ne-eqb}
-
-pub byEq : {C : Type 0} (a b : ℕ) → (a ≡ b → C) → ((a ≡ b → ⊥) → C) → C
-byEq {C} a b f g = go (ℕ-discrete a b)
-  where
-    go : Dec (a ≡ b) → C
-    go (yes e) = f e
-    go (no e) = g e
-
-pub byLt : {C : Type 0} (a b : ℕ) → (a < b → C) → (b ≤ a → C) → C
-byLt {C} a b f g = go (decLt a b)
-  where
-    go : Dec (a < b) → C
-    go (yes e) = f e
-    go (no e) = g (omega arith)
+use Rattle.rules.specs.Laws.Cases.{byEq}
 
 abbrev pub bit : Bool → ℕ
 bit true = 1

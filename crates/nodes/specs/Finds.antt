@@ -4,7 +4,8 @@ use mathlib.Core.List.{List}
 use Prim.Native.Nat.{ℕ, _+_, _<_, _≤_}
 use native.Mathlib.Omega.{arith}
 use lib.ListN.{getD}
-use Rattle.nodes.specs.Counts.{count, count-find, byEq, byLt}
+use Rattle.rules.specs.Laws.Cases.{byEq, byLt}
+use Rattle.nodes.specs.Counts.{count, count-find}
 
 -- x is at none of the first i places
 unfoldable pub Nowhere : List ℕ → ℕ → ℕ → Type 0

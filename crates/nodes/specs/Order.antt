@@ -3,7 +3,7 @@
 use mathlib.Core.Path.{_≡_, ap}
 use Prim.Native.Nat.{ℕ, _+_, _-_, _<_, _≤_}
 use native.Mathlib.Omega.{arith}
-use Rattle.nodes.specs.Counts.{byEq}
+use Rattle.rules.specs.Laws.Cases.{byEq}
 
 -- v is in order along parent, for the places below n
 unfoldable pub Ordered : (ℕ → ℕ) → (ℕ → ℕ) → ℕ → Type 0

@@ -8,7 +8,8 @@ use native.Mathlib.Omega.{arith}
 use lib.ListN.{getD}
 use lib.Dec.{ltb}
 use borrow.Author.Tests.{ltb-true, ltb-false}
-use Rattle.nodes.specs.Counts.{count, is, is-self, is-not, byEq}
+use Rattle.rules.specs.Laws.Cases.{byEq}
+use Rattle.nodes.specs.Counts.{count, is, is-self, is-not}
 
 -- x into a list in order, before the first that does not rank before it
 abbrev pub putAmong : Bool → ℕ → ℕ → List ℕ → List ℕ → List ℕ

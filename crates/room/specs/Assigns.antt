@@ -8,6 +8,7 @@ use borrow.Author.Tests.{eq-eqb, ne-eqb}
 use lib.IntN.{ℤ, pos}
 use lib.ListN.{getD, set, length-set}
 use lib.Seq.{getD-set-same, getD-set-other}
+use Rattle.rules.specs.Laws.Cases.{byEq}
 use Rattle.rules.specs.Base.{if_then_else_}
 use Rattle.rules.specs.Limits.{valueMost}
 use Rattle.rules.specs.Room.{isInside, standing}
@@ -15,7 +16,6 @@ use Rattle.rules.specs.Step.{assign}
 use Rattle.rules.specs.Laws.In.{byBool}
 use Rattle.rules.specs.Laws.Bounds.{Within}
 use Rattle.condition.specs.Closes.{conditionIn}
-use Rattle.nodes.specs.Counts.{byEq}
 use Rattle.room.specs.Arrays.{Arrays, arrays, roomOf}
 use Rattle.room.specs.Kept.{Sound}
 use Rattle.room.specs.Standings.{standing-is}

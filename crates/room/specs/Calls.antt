@@ -10,12 +10,12 @@ use lib.IntN.{ℤ}
 use lib.ListN.{getD, set, length-set}
 use lib.Seq.{getD-set-same, getD-set-other}
 use borrow.Author.Tests.{eq-eqb, ne-eqb, eqb-true, lt-ltb}
+use Rattle.rules.specs.Laws.Cases.{byEq}
 use Rattle.rules.specs.Base.{if_then_else_}
 use Rattle.rules.specs.Search.{Waiter, Pair, found, evaluated}
 use Rattle.rules.specs.Laws.Waiting.{pair-of}
 use Rattle.rules.specs.Demands.Calls.{found-true}
 use Rattle.condition.specs.Closing.{ClosedSlots}
-use Rattle.nodes.specs.Counts.{byEq}
 use Rattle.index.specs.Changes.{WordsOf, PartedIndex}
 use Rattle.search.specs.Pairs.{waiterAt, waitersIn, in-waiters}
 use Rattle.search.specs.Answers.{answer, searched}

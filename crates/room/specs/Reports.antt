@@ -7,7 +7,7 @@ use native.Mathlib.Omega.{arith}
 use lib.Dec.{eqb, ltb}
 use lib.IntN.{ℤ}
 use borrow.Author.Tests.{lt-ltb, le-ltb}
-use Rattle.nodes.specs.Counts.{byLt}
+use Rattle.rules.specs.Laws.Cases.{byLt}
 use Rattle.rules.specs.Base.{if_then_else_}
 use Rattle.rules.specs.Search.{Waiter, Pair, found, evaluated}
 use Rattle.rules.specs.Step.{Outcome, done, enters, waits, on, back, accepted, refusal, jobOf, calledIn}

@@ -9,13 +9,13 @@ use borrow.Author.Tests.{eqb-true, lt-ltb}
 use lib.IntN.{ℤ, pos}
 use lib.ListN.{getD}
 use lib.Seq.{getD-set-other}
+use Rattle.rules.specs.Laws.Cases.{byEq}
 use Rattle.rules.specs.Condition.{Condition, conditionTrue}
 use Rattle.rules.specs.Room.{now}
 use Rattle.rules.specs.Search.{Waiter, waiters, found, evaluated}
 use Rattle.rules.specs.Step.{accepted, call, jobOf}
 use Rattle.rules.specs.Laws.In.{true-not-false}
 use Rattle.condition.specs.Measures.{nowAt}
-use Rattle.nodes.specs.Counts.{byEq}
 use Rattle.given.specs.Nows.{now-same}
 use Rattle.given.specs.Same.{condition-same, found-same, evaluated-same}
 use Rattle.search.specs.Pairs.{waitersIn}

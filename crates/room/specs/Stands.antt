@@ -9,11 +9,11 @@ use lib.Dec.{eqb}
 use lib.IntN.{ℤ}
 use lib.ListN.{getD, set, length-set}
 use lib.Seq.{getD-set-same, getD-set-other}
+use Rattle.rules.specs.Laws.Cases.{byEq}
 use Rattle.rules.specs.Room.{called, stand, now}
 use Rattle.rules.specs.Search.{Waiter, Pair, found, evaluated}
 use Rattle.rules.specs.Step.{call}
 use Rattle.condition.specs.Closes.{conditionIn}
-use Rattle.nodes.specs.Counts.{byEq}
 use Rattle.search.specs.Pairs.{waitersIn}
 use Rattle.search.specs.Answers.{answer, searched}
 use Rattle.search.specs.declared.Answer.{Answer}

@@ -4,7 +4,7 @@ use mathlib.Core.List.{List}
 use Prim.Native.Nat.{ℕ, _+_, _%_, _<_, _≤_}
 use native.Mathlib.Omega.{arith}
 use lib.ListN.{getD}
-use Rattle.nodes.specs.Counts.{byLt}
+use Rattle.rules.specs.Laws.Cases.{byLt}
 use Rattle.nodes.specs.Order.{Ordered}
 use Rattle.rows.specs.Places.{previous, earlier-first}
 

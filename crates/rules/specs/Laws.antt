@@ -10,5 +10,6 @@ pub mod Rearranged
 pub mod InRankOrder
 pub mod Moves
 pub mod Bounds
+pub mod Cases
 pub mod Readers
 pub mod WellFormed

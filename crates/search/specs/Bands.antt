@@ -5,8 +5,8 @@ use mathlib.Core.Logic.{_⊎_, inl, inr}
 use mathlib.Core.List.{List, [], _++_}
 use Prim.Native.Nat.{ℕ, zero, suc, _+_, _*_, _<_, _≤_}
 use native.Mathlib.Omega.{arith}
+use Rattle.rules.specs.Laws.Cases.{byLt}
 use Rattle.rules.specs.Laws.In.{In, in-left, in-right, in-append}
-use Rattle.nodes.specs.Counts.{byLt}
 use Rattle.search.specs.Rising.{Rising, rising-same, rising-append}
 use Rattle.search.specs.Stretches.{lists}
 

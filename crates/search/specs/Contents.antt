@@ -9,10 +9,11 @@ use native.Mathlib.Nat.{add-zero}
 use native.Mathlib.Omega.{arith}
 use lib.ListN.{getD, length, take, drop}
 use lib.Seq.{drop-cons}
+use Rattle.rules.specs.Laws.Cases.{byEq}
 use Rattle.rules.specs.Base.{if_then_else_}
 use Rattle.rules.specs.Laws.In.{In, byBool}
 use Rattle.condition.specs.Closed.{from}
-use Rattle.nodes.specs.Counts.{count, is, is-self, is-not, bit, byEq, count-more, count-at}
+use Rattle.nodes.specs.Counts.{count, is, is-self, is-not, bit, count-more, count-at}
 use Rattle.nodes.specs.Order.{Ordered}
 use Rattle.nodes.specs.Holes.{value}
 use Rattle.nodes.specs.Sorted.{sorted, times, Ascending, Apart, sorted-times, sorted-ascending}

@@ -26,6 +26,7 @@ use Rattle.rows.specs.Halves.{wordOf}
 use Rattle.homes.specs.Regions.{region}
 use Rattle.entries.specs.Entries.{Waits, isLead, waits-below}
 use Rattle.index.specs.Filed.{homeIn, tagIn, countIn, isNode}
+use Rattle.index.specs.Apart as apart
 use Rattle.index.specs.Index.{Index}
 use Rattle.drain.specs.Drained.{nodeTag}
 use Rattle.search.specs.Contents.{Holds}
@@ -52,10 +53,6 @@ pub record Searchable : Type 0 where
   pub index : Index slots ticket entry high low places lengths
   pub ticket-fits : (k : ℕ) → getD ticket k 0 < 2 ^ 32
   pub room : (m : ℕ) → Within keyRoom (getD now m (pos 0))
-
-two-low : (a b c d : ℕ) → b < 2 ^ 64 → d < 2 ^ 64 → two a b ≡ two c d → b ≡ d
-unfolding two
-two-low a b c d p q e = omega arith
 
 two-high : (a b c d : ℕ) → b < 2 ^ 64 → d < 2 ^ 64 → two a b < two c d → a ≤ c
 unfolding two
@@ -112,13 +109,7 @@ module _ (q : Searchable) where
   low-fits x n = omega (arith, node-is x n .low-is, q .ticket-fits (x / 4))
 
   pub nodes-apart : (y z : ℕ) → node y ≡ true → node z ≡ true → rankOf y ≡ rankOf z → y ≡ z
-  nodes-apart y z f g e =
-      let a = node-is y f in
-      let b = node-is z g in
-      let l = two-low (wordOf (q .high) y) (getD (q .low) (y % 128) 0) (wordOf (q .high) z) (getD (q .low) (z % 128) 0) (low-fits y f) (low-fits z g) e in
-      let j : y / 4 ≡ z / 4 = q .index .distinct (y / 4) (z / 4) (a .waits) (b .waits) (omega (arith, l, a .low-is, b .low-is)) in
-      let k : y % 4 ≡ z % 4 = omega (arith, l, a .low-is, b .low-is, ap (λ u. getD (q .ticket) u 0) j) in
-      omega (arith, j, k)
+  nodes-apart y z f g e = apart.nodes-apart (q .slots) (q .ticket) (q .entry) (q .high) (q .low) (q .places) (q .lengths) (q .index) y z (low-fits y f) (low-fits z g) f g e
 
   pub by-word : (x y : ℕ) → node x ≡ true → wordOf (q .high) x < wordOf (q .high) y → rankOf x < rankOf y
   by-word x y n h = two-less (wordOf (q .high) x) (getD (q .low) (x % 128) 0) (wordOf (q .high) y) (getD (q .low) (y % 128) 0) (low-fits x n) h

@@ -10,6 +10,7 @@ use lib.Dec.{ltb}
 use borrow.Author.Tests.{ltb-true, lt-ltb}
 use lib.IntN.{ℤ}
 use lib.ListN.{getD}
+use Rattle.rules.specs.Laws.Cases.{byEq}
 use Rattle.rules.specs.Base.{if_then_else_, those, gather}
 use Rattle.rules.specs.Condition.{Atom}
 use Rattle.rules.specs.Tag.{tagHolds}
@@ -23,7 +24,6 @@ use Rattle.rules.specs.Laws.InRankOrder.{Ordered, ordered-once}
 use Rattle.condition.specs.Closed.{from, alternativeAt}
 use Rattle.condition.specs.Closing.{ClosedSlots}
 use Rattle.condition.specs.Closes.{conditionIn}
-use Rattle.nodes.specs.Counts.{byEq}
 use Rattle.search.specs.Rising.{Rising}
 use Rattle.search.specs.Contents.{from-in, in-from}
 

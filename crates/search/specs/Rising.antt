@@ -7,9 +7,9 @@ use Prim.Native.Nat.{ℕ, zero, suc, _<_}
 use native.Mathlib.Omega.{arith}
 use lib.Dec.{ltb}
 use borrow.Author.Tests.{ltb-true, ltb-false}
+use Rattle.rules.specs.Laws.Cases.{byEq}
 use Rattle.rules.specs.Base.{if_then_else_, those}
 use Rattle.rules.specs.Laws.In.{In, byBool, in-those}
-use Rattle.nodes.specs.Counts.{byEq}
 use Rattle.nodes.specs.Sorted.{among, putAmong}
 
 abbrev pub Rising : (ℕ → ℕ) → List ℕ → Type 0

@@ -12,6 +12,7 @@ use Rattle.rules.specs.Condition.{identical, alternativeTrue}
 use Rattle.rules.specs.Tag.{tag, holds, tagHolds}
 use Rattle.rules.specs.Rank.{before}
 use Rattle.rules.specs.Search.{Waiter, Pair, follows}
+use Rattle.rules.specs.Laws.Cases.{byEq}
 use Rattle.rules.specs.Laws.In.{In, byBool, true-not-false, both, any-in, any-some}
 use Rattle.rules.specs.Laws.Identical.{identical-true, identical-same}
 use Rattle.rules.specs.Laws.InRankOrder.{Ordered, law-found, law-count}
@@ -69,7 +70,7 @@ module _ (q : Searchable) where
       let n = getD (q .entry) j 0 - 1 in
       let l = q .index .entries j w in
       let first = l .oldest j w refl in
-      let less : getD (q .ticket) n 0 < getD (q .ticket) j 0 = Rattle.nodes.specs.Counts.byEq (getD (q .ticket) n 0) (getD (q .ticket) j 0)
+      let less : getD (q .ticket) n 0 < getD (q .ticket) j 0 = byEq (getD (q .ticket) n 0) (getD (q .ticket) j 0)
       (λ e. true-not-false (eq-eqb (getD (q .entry) j 0) (j + 1) (omega (arith, q .index .distinct n j (l .waits) w e))) t) (λ d. omega (arith, first)) in
       any-in (λ (v : Waiter). identical (v .condition) (at j .condition) && ltb (v .ticket) (at j .ticket)) {a = at n} waiting
       (waiters-in (q .slots) (q .ticket) (q .entry) n (waits-below (q .entry) 32 n (omega (arith, q .index .size)) (l .waits)) (l .waits))

@@ -9,6 +9,7 @@ use lib.Dec.{eqb}
 use borrow.Author.Tests.{eq-eqb, ne-eqb}
 use lib.ListN.{getD, length, take, drop}
 use Rattle.rules.specs.Base.{if_then_else_, those}
+use Rattle.rules.specs.Laws.Cases.{byLt}
 use Rattle.rules.specs.Laws.In.{In, byBool, those-none}
 use Rattle.condition.specs.Closed.{from}
 use Rattle.nodes.specs.Holes.{value}
@@ -50,7 +51,7 @@ module _ (high row : List ℕ) (n w a b : ℕ) (fits : n ≤ length row) (f : Re
 
   -- the two places are in order
   pub run-order : a ≤ b
-  run-order = Rattle.nodes.specs.Counts.byLt b a (λ h. absurd (omega (arith, f .less b h, g .more b (omega arith) (omega (arith, f .most))))) (λ h. h)
+  run-order = byLt b a (λ h. absurd (omega (arith, f .less b h, g .more b (omega arith) (omega (arith, f .most))))) (λ h. h)
 
   failing : (k p : ℕ) → ((j : ℕ) → p ≤ j → j < p + k → wordOf high (at j) ≡ w → ⊥) → those test (from at k p) ≡ []
   failing k p h = those-none test (from at k p) (λ x i. let r = from-in at k p x i in ne-eqb (wordOf high x) w (λ e. h (r .0) (r .1) (r .2) (ap (wordOf high) (r .3) ∙ e)))

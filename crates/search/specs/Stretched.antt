@@ -7,9 +7,10 @@ use Prim.Native.Nat.{ℕ, _+_, _*_, _-_, _^_, _<_, _≤_}
 use native.Mathlib.Nat.{sub-zero}
 use native.Mathlib.Omega.{arith}
 use lib.ListN.{getD}
+use Rattle.rules.specs.Laws.Cases.{byLt}
 use Rattle.rules.specs.Laws.In.{In, both}
 use Rattle.filing.specs.Bands as bands
-use Rattle.nodes.specs.Counts.{byLt, count-find, count-at}
+use Rattle.nodes.specs.Counts.{count-find, count-at}
 use Rattle.nodes.specs.Order.{Ordered}
 use Rattle.nodes.specs.Holes.{value}
 use Rattle.nodes.specs.Sorted.{sorted}

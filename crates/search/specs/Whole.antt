@@ -8,10 +8,10 @@ use lib.Dec.{eqb}
 use borrow.Author.Tests.{eqb-true, eq-eqb}
 use lib.IntN.{pos}
 use lib.ListN.{getD}
+use Rattle.rules.specs.Laws.Cases.{byLt}
 use Rattle.rules.specs.Laws.In.{In, in-those, those-in}
 use Rattle.filing.specs.Words.{equalityWord}
 use Rattle.filing.specs.Bands as bands
-use Rattle.nodes.specs.Counts.{byLt}
 use Rattle.rows.specs.Halves.{wordOf}
 use Rattle.homes.specs.Regions.{region}
 use Rattle.search.specs.Rising.{rising-those}

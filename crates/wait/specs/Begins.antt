@@ -9,6 +9,7 @@ use lib.Dec.{eqb}
 use borrow.Author.Tests.{eqb-true, eq-eqb, ne-eqb, ltb-false, lt-ltb, lt-leb}
 use lib.ListN.{getD, set, length-set}
 use lib.Seq.{sets, getD-set-same, getD-set-other}
+use Rattle.rules.specs.Laws.Cases.{byEq}
 use Rattle.rules.specs.Limits.{tickets}
 use Rattle.rules.specs.Condition.{conditionTrue}
 use Rattle.rules.specs.Room.{Room, standing, stand, waiting, now, giveTicket}
@@ -19,7 +20,6 @@ use Rattle.condition.specs.Closed.{from}
 use Rattle.condition.specs.Closing.{ClosedSlots, GivenSlots, putClosed}
 use Rattle.condition.specs.Closes.{Sized, conditionIn, closes}
 use Rattle.ranks.specs.Words.{highWord, lowWord}
-use Rattle.nodes.specs.Counts.{byEq}
 use Rattle.entries.specs.Entries.{Waits}
 use Rattle.index.specs.Filed.{tagIn}
 use Rattle.index.specs.Index.{Index}

@@ -7,13 +7,13 @@ use native.Mathlib.Omega.{arith}
 use lib.IntN.{pos}
 use lib.ListN.{getD, set, length, length-set, List·getD-eq-default}
 use lib.Seq.{sets, length-sets, getD-set-same, getD-set-other}
+use Rattle.rules.specs.Laws.Cases.{byEq, byLt}
 use Rattle.rules.specs.Limits.{coefficientMost, valueMost, keyMost}
 use Rattle.rules.specs.Laws.Bounds.{Within, in-add}
 use Rattle.condition.specs.Measures.{AllIn}
 use Rattle.condition.specs.Closed.{from, alternativeAt}
 use Rattle.condition.specs.Closing.{ClosedSlots, GivenSlots, putClosed, keyAt, keysFrom, firstOf, from-many, local-within}
 use Rattle.condition.specs.Closes.{Sized, conditionIn, stored-before, stored-after, stored-in, alternative-kept, others-kept}
-use Rattle.nodes.specs.Counts.{byEq, byLt}
 use Rattle.search.specs.Live.{SlotsFit}
 
 -- ---- what is so of all that stood there and of all that comes is so of all
