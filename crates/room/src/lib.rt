@@ -1,5 +1,5 @@
-// The room over lent arrays: an opening, and four of the five events, one in, one report out (document 01, "Standings and events"). Wait has a
-// crate of its own.
+// The room over lent arrays: what it is and keeps (specs/), Arrive and Set, and the call of the next job, which the events that search share (document 01,
+// "Standings and events"). Admit, Leave and Wait have crates of their own.
 pub mod arrive;
 pub mod assign;
 pub mod call;
