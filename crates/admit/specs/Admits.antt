@@ -14,10 +14,9 @@ use Rattle.rules.specs.Condition.{conditionTrue}
 use Rattle.rules.specs.Room.{standing, stand, door, inside, waiting, called, now}
 use Rattle.rules.specs.Step.{Step, admit, admitted, occupied, refuse, step}
 use Rattle.condition.specs.Measures.{nowAt}
-use Rattle.condition.specs.Closing.{ClosedSlots}
 use Rattle.condition.specs.Closes.{conditionIn}
 use Rattle.entries.specs.Entries.{Waits}
-use Rattle.index.specs.Changes.{WordsOf, JoinedIndex}
+use Rattle.index.specs.Changes.{JoinedIndex}
 use Rattle.search.specs.declared.Answer.{Answer}
 use Rattle.room.specs.Arrays.{Arrays, standingOf, roomOf}
 use Rattle.room.specs.Kept.{Sound}

@@ -2,8 +2,8 @@
 use borrow.Author.Needs.{needs}
 use Rattle.search.specs.Runs.{run-order}
 use Rattle.search.specs.Lookups.{nothing-walked, value-room, looked-up}
-use Rattle.search.proofs.search_measure.Statement.{statement}
-use Rattle.search.proofs.search_measure.Tie as tie
+use Rattle.search.proofs.equalities.search_measure.Statement.{statement}
+use Rattle.search.proofs.equalities.search_measure.Tie as tie
 
 ruleset laws = (needs, nothing-walked, value-room)
 

@@ -5,8 +5,8 @@ use Prim.Native.Nat.{_+_, _*_, _-_}
 use native.Mathlib.Omega.{arith}
 use Rattle.nodes.specs.Ranks.{rank}
 use Rattle.search.specs.Heaps.{part-fits, part-order, part-apart, part-walked}
-use Rattle.search.proofs.search_heap.Statement.{statement}
-use Rattle.search.proofs.search_heap.Tie as tie
+use Rattle.search.proofs.thresholds.search_heap.Statement.{statement}
+use Rattle.search.proofs.thresholds.search_heap.Tie as tie
 
 heap-requires : tie.Need-evaluate-heap-requires
 heap-requires c κs =

@@ -9,8 +9,8 @@ use Rattle.drain.specs.Drained.{nodeTag}
 use Rattle.walk.specs.Walks.{nodeTrue, walked}
 use Rattle.search.specs.Stretches.{lists, listsLeft, lists-start, lists-end, lists-find, lists-pass, lists-most, count-most}
 use Rattle.search.specs.Heaps.{thresholds, thresholds-most}
-use Rattle.search.proofs.search_thresholds.Statement.{statement}
-use Rattle.search.proofs.search_thresholds.Tie as tie
+use Rattle.search.proofs.thresholds.search_thresholds.Statement.{statement}
+use Rattle.search.proofs.thresholds.search_thresholds.Tie as tie
 
 ruleset laws = (needs, lists-start, lists-end)
 

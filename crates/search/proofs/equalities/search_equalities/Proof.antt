@@ -7,8 +7,8 @@ use Rattle.condition.specs.Measures.{nowAt}
 use Rattle.walk.specs.Walks.{nodeTrue, walked}
 use Rattle.search.specs.Stretches.{lists, listsLeft, lists-start, lists-end, lists-find, lists-pass, lists-most, count-most}
 use Rattle.search.specs.Lookups.{equalities, equalities-most}
-use Rattle.search.proofs.search_equalities.Statement.{statement}
-use Rattle.search.proofs.search_equalities.Tie as tie
+use Rattle.search.proofs.equalities.search_equalities.Statement.{statement}
+use Rattle.search.proofs.equalities.search_equalities.Tie as tie
 
 ruleset laws = (needs, lists-start, lists-end)
 
