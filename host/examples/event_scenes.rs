@@ -5,21 +5,13 @@
 //! Job 0 acts. Jobs from 1 on wait, job k for x ≥ 1000 + k, no two for the same.
 
 use harbour::{Report, Room, Tally};
+use second::number;
 
 const WAITING: [u8; 4] = [0, 4, 16, 30];
 
-fn signed(number: i64) -> Vec<u8> {
-    let mut left = if number < 0 {
-        -2 * number - 1
-    } else {
-        2 * number
-    };
+fn signed(value: i64) -> Vec<u8> {
     let mut bytes = Vec::new();
-    while left >= 128 {
-        bytes.push((left % 128) as u8 | 128);
-        left /= 128;
-    }
-    bytes.push(left as u8);
+    number::write(number::from_signed(value), &mut bytes);
     bytes
 }
 

@@ -2,19 +2,11 @@
 //! of its range is taken, and the one after it is refused with 4.
 
 use harbour::listing;
+use second::number;
 
-fn signed(number: i64) -> Vec<u8> {
-    let mut left = if number < 0 {
-        -2 * number - 1
-    } else {
-        2 * number
-    };
+fn signed(value: i64) -> Vec<u8> {
     let mut bytes = Vec::new();
-    while left >= 128 {
-        bytes.push((left % 128) as u8 | 128);
-        left /= 128;
-    }
-    bytes.push(left as u8);
+    number::write(number::from_signed(value), &mut bytes);
     bytes
 }
 

@@ -160,7 +160,8 @@ module _ {opened : List ℕ} {first room : Room} {first-tally tally : Tally} {ev
   pub code-index : Index (closedSlots (room .alternatives) (room .atoms) (room .measure) (room .operator) (room .key)) (room .ticket) (room .entry) (room .high) (room .low) (room .places) (room .lengths)
   code-index = code-kept .sound .index
 
--- ---- any two answers that the contracts allow are the same: reports and tallies number by number, rooms but for the arrangement inside heaps
+-- ---- any two answers that the contracts allow are the same: reports and tallies number by number, rooms in what they mean (`Looks.antt` `seen-alike` says
+-- what they may still differ in)
 pub one-opening : {bytes : List ℕ} {r s : Opened} {room room′ : Room} → OpensRoom bytes r (arraysOf room) → OpensRoom bytes s (arraysOf room′) → (r ≡ s) × (arraysOf room ≡ arraysOf room′)
 one-opening a b = (a .tells ∙ sym (b .tells), a .opens .1 ∙ sym (b .opens .1))
 

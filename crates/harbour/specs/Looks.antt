@@ -12,6 +12,7 @@ use Rattle.rules.specs.Laws.Cases.{byLt}
 use Rattle.rules.specs.Base.{if_then_else_}
 use Rattle.rules.specs.Condition.{Condition}
 use Rattle.rules.specs.Room.{Standing, outside, door, inside, waiting, called, standing}
+use Rattle.rules.specs.Room as rules
 use Rattle.rules.specs.Step.{occupied}
 use Rattle.rules.specs.Laws.In.{byBool}
 use Rattle.condition.specs.Closes.{conditionIn}
@@ -96,3 +97,9 @@ module _ (room : Room) (k : Kept (arraysOf room)) where
           (standingCode (standing (meaning room) (insideFrom (room .standing) 32 0)) ≡ 2) ⊎ ((insideFrom (room .standing) 32 0 ≡ 32) × (occupied (meaning room) ≡ false))
       go (inl e) = inl (sym (look-standing (insideFrom (room .standing) 32 0)) ∙ e)
       go (inr e) = inr (e .0, occupied-is (arraysOf room) (k .sound) ∙ e .1)
+
+-- Rooms that mean the same look the same. What they may differ in is where a node stands inside its heap, and what stands in the slots of a job that
+-- neither waits nor is called: that is written before it is read.
+pub seen-alike : (room room′ : Room) → Kept (arraysOf room) → Kept (arraysOf room′) → meaning room ≡ meaning room′ →
+    ((j : ℕ) → getD (room .standing) j 0 ≡ getD (room′ .standing) j 0) × (room .values ≡ room′ .values) × (room .«next_ticket» ≡ room′ .«next_ticket»)
+seen-alike room room′ k k′ e = (λ j. look-standing room k j ∙ ap (λ r. standingCode (standing r j)) e ∙ sym (look-standing room′ k′ j), ap (λ (r : rules.Room). r .values) e, ap (λ (r : rules.Room). r .nextTicket) e)

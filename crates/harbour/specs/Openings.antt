@@ -22,13 +22,7 @@ pub record OpensRoom (bytes : List ℕ) (r : Opened) (a : Arrays) : Type 0 where
   pub tells : r ≡ toldOpening (asOpening bytes (opening bytes))
   pub opens : Opens bytes (asOpening bytes (opening bytes)) a
 
--- ---- the answers of `measures_in` and `told_opening`
-pub got-measures : {x : Number} {n place : ℕ} → x ≡ Got n place → n ≡ measuresIn x
-got-measures e = ap measuresIn (sym e)
-
-pub no-measures : {x : Number} {k : ℕ} → x ≡ Refused k → 0 ≡ measuresIn x
-no-measures e = ap measuresIn (sym e)
-
+-- ---- the answers of `told_opening`
 pub told-got : {x : Number} {n place : ℕ} → x ≡ Got n place → openedNumbers 0 n place ≡ toldOpening x
 told-got e = ap toldOpening (sym e)
 
