@@ -26,11 +26,15 @@ use Rattle.condition.specs.Closes.{conditionIn, givenCondition}
 use Rattle.given.specs.Taken.{givenIn, taken}
 use Rattle.given.specs.Taken as given
 use Rattle.room.specs.Arrays.{Arrays, standingAt, roomOf}
+use Rattle.room.specs.Stores.{storeWaited}
 use Rattle.room.specs.Kept.{Kept}
+use Rattle.room.specs.Reports.{meaning}
 use Rattle.room.specs.Standings.{standing-is, code-waiting, code-called}
 use Rattle.room.specs.Steps.{Stepped}
-use Rattle.wait.specs.Waits.{GivenFit}
-use Rattle.event.specs.Takes.{placed, waitHead, Takes, by-step, by-refusal, event-fits}
+use Rattle.wait.specs.Waits.{GivenFit, Waited}
+use Rattle.event.specs.Answers.{placed}
+use Rattle.event.specs.Takes.{Takes, by-step, by-refusal, event-fits}
+use Rattle.event.specs.TakesHead.{waitHead}
 use Rattle.room.specs.declared.report.Report.{Report}
 use Rattle.event.specs.declared.Taken.{Taken}
 use Rattle.event.specs.declared.Taken.the-variants.{Refused}
@@ -109,9 +113,10 @@ module _ (a : Arrays) (k : Kept a) (bytes : List ℕ) (at job next : ℕ) (from 
       same-step : step (roomOf a) (wait job l (givenCondition (givenIn count s l))) ≡ step (roomOf a) read-event
       same-step = ap (λ c. rules.needs (isInside (standing (roomOf a) job)) (roomOf a) (waited job c (roomOf a))) (t .closed)
 
-      pub takes-wait : {few : ℕ} → few ≡ count → {b : Arrays} {w : Report} → Stepped a b (wait job l (givenCondition (givenIn few s l))) w → {u : Taken} → u ≡ placed w next₂ → Takes a b bytes at u
-      takes-wait {few} f {b} {w} st₀ =
-          let st : Stepped a b (wait job l (givenCondition (givenIn count s l))) w = subst (λ n. Stepped a b (wait job l (givenCondition (givenIn n s l))) w) f st₀ in
+      pub takes-wait : {few : ℕ} → few ≡ count → {b : Arrays} {w : Report} → Waited a b job (givenIn few s l) w → {u : Taken} → u ≡ placed w next₂ → Takes a b bytes at u
+      takes-wait {few} f {b} {w} w₀ =
+          let w₁ : Waited a b job (givenIn count s l) w = subst (λ n. Waited a b job (givenIn n s l) w) f w₀ in
+          let st = w₁ .stepped in
           let stepped : Stepped a b read-event w = record {
             report = st .report ∙ ap (λ (x : rules.Step). x .report) same-step;
             room = st .room ∙ ap (λ (x : rules.Step). x .room) same-step;
@@ -119,4 +124,4 @@ module _ (a : Arrays) (k : Kept a) (bytes : List ℕ) (at job next : ℕ) (from 
             same = st .same;
             plain = st .plain;
           } in
-          by-step a k bytes at stepped (reads ∙ ap (read read-event) rest-is) (omega (arith, t .place))
+          by-step a k bytes at stepped (w₁ .store ∙ ap (λ g. storeWaited a job g (meaning w)) (t .hold)) (reads ∙ ap (read read-event) rest-is) (omega (arith, t .place))

@@ -8,11 +8,11 @@ use lib.IntN.{ℤ}
 use lib.ListN.{drop, length}
 use Rattle.rules.specs.Limits.{valueMost, locals}
 use Rattle.rules.specs.Number.{Read, read, refused}
-use Rattle.rules.specs.Condition.{closure}
+use Rattle.rules.specs.Condition.{Given, closure}
 use Rattle.fields.specs.Answers.{placeOf}
 use Rattle.fields.specs.declared.number.Number.{Number}
 use Rattle.fields.specs.declared.number.Number.the-variants as number
-use Rattle.wire.specs.Waits.{WaitSlots, Body, numbers, Waits}
+use Rattle.wire.specs.Waits.{WaitSlots, putAlternatives, noSlots, Body, numbers, Waits}
 use Rattle.condition.specs.Measures.{AllIn}
 use Rattle.condition.specs.Closing.{GivenSlots, givenSlots}
 use Rattle.condition.specs.Closes.{givenCondition}
@@ -23,6 +23,10 @@ use Rattle.given.specs.Reads.{BodyFits, read-fits}
 abbrev pub givenIn : ℕ → WaitSlots → List ℤ → GivenSlots
 givenIn count s l = givenSlots count (s .counts) (s .atoms .measure) (s .atoms .operator) (s .atoms .coefficients) (s .atoms .constant) l
 
+-- those of a Wait with these local values and this condition: 0 in the slots of parts that it does not have
+abbrev pub slotsFor : List ℤ → List (List Given) → GivenSlots
+slotsFor locals condition = givenIn (length condition) (putAlternatives 0 noSlots condition) locals
+
 module _ (measures : ℕ) (bytes : List ℕ) (at : ℕ) where
   pub record Taken (count next : ℕ) (l : List ℤ) (s : WaitSlots) : Type 0 where
     pub body : Body
@@ -32,6 +36,7 @@ module _ (measures : ℕ) (bytes : List ℕ) (at : ℕ) where
     pub fits : BodyFits measures body
     pub slots : WaitFits measures s
     pub locals-within : AllIn valueMost l
+    pub hold : givenIn count s l ≡ slotsFor (body .locals) (body .condition)
     pub closed : closure l (givenCondition (givenIn count s l)) ≡ closure (body .locals) (body .condition)
 
   pub taken : {r : Number} {count next : ℕ} {l : List ℤ} {s : WaitSlots} → Waits bytes (numbers measures (drop at bytes)) r l s → r ≡ number.Got count next → Taken count next l s
@@ -41,6 +46,7 @@ module _ (measures : ℕ) (bytes : List ℕ) (at : ℕ) where
       go (read b rest) d w =
           let f = read-fits measures bytes at d in
           let counted : count ≡ length (b .condition) = cc in
+          let hold : givenIn count s l ≡ slotsFor (b .locals) (b .condition) = λ i. givenIn (counted i) (w .2 i) (w .1 i) in
           record {
             body = b;
             rest = rest;
@@ -49,6 +55,7 @@ module _ (measures : ℕ) (bytes : List ℕ) (at : ℕ) where
             fits = f;
             slots = subst (WaitFits measures) (sym (w .2)) (slots-fit measures (b .condition) (f .0));
             locals-within = subst (AllIn valueMost) (sym (w .1)) (numbers-in locals valueMost (b .locals) (f .1));
-            closed = (λ i. closure (w .1 i) (givenCondition (givenIn (counted i) (w .2 i) (w .1 i)))) ∙ ap (closure (b .locals)) (given-back measures (b .condition) (f .0) (b .locals));
+            hold = hold;
+            closed = (λ i. closure (w .1 i) (givenCondition (hold i))) ∙ ap (closure (b .locals)) (given-back measures (b .condition) (f .0) (b .locals));
           }
       go (refused k) d w = let z : _≡_ {A = ℕ} 0 1 = cc in absurd (omega arith)

@@ -30,6 +30,7 @@ use Rattle.tally.specs.declared.Tally.{Tally}
 use Rattle.room.specs.Kept.{Kept}
 use Rattle.opening.specs.Opens.{emptyWith, opened-means, refused-means}
 use Rattle.event.specs.Takes.{take-read, measures-many}
+use Rattle.harbour.specs.Alike.{Alike, alike}
 use Rattle.harbour.specs.Rooms.{arraysOf, meaning}
 use Rattle.harbour.specs.Openings.{OpensRoom, openedNumbers, toldOpening}
 use Rattle.harbour.specs.Reports.{hostReport, reportOf, Same}
@@ -160,11 +161,11 @@ module _ {opened : List ℕ} {first room : Room} {first-tally tally : Tally} {ev
   pub code-index : Index (closedSlots (room .alternatives) (room .atoms) (room .measure) (room .operator) (room .key)) (room .ticket) (room .entry) (room .high) (room .low) (room .places) (room .lengths)
   code-index = code-kept .sound .index
 
--- ---- any two answers that the contracts allow are the same: reports and tallies number by number, rooms in what they mean (`Looks.antt` `seen-alike` says
--- what they may still differ in)
+-- ---- any two answers that the contracts allow are the same, number by number, but for the places of nodes inside their heaps
 pub one-opening : {bytes : List ℕ} {r s : Opened} {room room′ : Room} → OpensRoom bytes r (arraysOf room) → OpensRoom bytes s (arraysOf room′) → (r ≡ s) × (arraysOf room ≡ arraysOf room′)
 one-opening a b = (a .tells ∙ sym (b .tells), a .opens .1 ∙ sym (b .opens .1))
 
 pub one-answer : {room room′ room″ : Room} {tally tally′ tally″ : Tally} {bytes : List ℕ} {r s : Report} → EventTaken room room′ tally tally′ bytes r → EventTaken room room″ tally tally″ bytes s →
-    (r ≡ s) × (tally′ ≡ tally″) × (meaning room′ ≡ meaning room″)
-one-answer a b = (a .report ∙ sym (b .report), tallyOf-one _ _ (a .tally-after ∙ sym (b .tally-after)), a .room-after ∙ sym (b .room-after))
+    (r ≡ s) × (tally′ ≡ tally″) × Alike room′ room″
+one-answer {room′ = room′} {room″} a b =
+    (a .report ∙ sym (b .report), tallyOf-one _ _ (a .tally-after ∙ sym (b .tally-after)), alike room′ room″ (a .kept) (b .kept) (a .room-after ∙ sym (b .room-after)) (a .store-after ∙ sym (b .store-after)))

@@ -4,11 +4,13 @@ use mathlib.Core.List.{List}
 use Prim.Native.Nat.{ℕ}
 use Rattle.rules.specs.Step.{accepted, refusal, nothing}
 use Rattle.rules.specs.Step as rules
+use Rattle.rules.specs.Record.{event}
 use Rattle.rules.specs.Tally.{take, note}
 use Rattle.rules.specs.Tally as steps
 use Rattle.fields.specs.Answers.{placeOf}
 use Rattle.tally.specs.Added.{tallyOf}
 use Rattle.tally.specs.declared.Tally.{Tally}
+use Rattle.room.specs.Stores.{storeOf, storeAfter}
 use Rattle.room.specs.Kept.{Kept}
 use Rattle.harbour.specs.Rooms.{arraysOf, meaning, one-room}
 use Rattle.harbour.specs.Reports.{hostReport, reportOf, Same, Reports}
@@ -24,6 +26,8 @@ pub record EventTaken (room room′ : Room) (tally tally′ : Tally) (bytes : Li
   pub report : r ≡ hostReport (stepOf room bytes .result .report) (placeOf bytes (stepOf room bytes .rest))
   pub means : reportOf r ≡ stepOf room bytes .result .report
   pub room-after : meaning room′ ≡ stepOf room bytes .result .room
+  -- what the arrays hold beside it: of two rooms that this allows, nodes stand elsewhere inside their heaps, and that is all (`Alike.antt`)
+  pub store-after : storeOf (arraysOf room′) ≡ storeAfter (arraysOf room) (event (room .measures) bytes) (stepOf room bytes .result .report)
   pub tally-after : tallyOf tally′ ≡ note (stepOf room bytes .result .report) (tallyOf tally)
   pub kept : Kept (arraysOf room′)
   pub same : Same (stepOf room bytes .result .report) room room′
@@ -39,6 +43,7 @@ event-taken {room} {room′} {tally} {tally′} {bytes} {r} k e = record {
   report = k .report;
   means = k .means;
   room-after = k .room;
+  store-after = k .store;
   tally-after = ap tallyOf e ∙ ap (λ x. note x (tallyOf tally)) (k .means);
   kept = k .kept;
   same = same-room (stepOf room bytes .result .report) room room′ (k .same);

@@ -4,5 +4,6 @@ pub mod Openings
 pub mod Reports
 pub mod Tallies
 pub mod Looks
+pub mod Alike
 pub mod Events
 pub mod Demands

@@ -98,8 +98,7 @@ module _ (room : Room) (k : Kept (arraysOf room)) where
       go (inl e) = inl (sym (look-standing (insideFrom (room .standing) 32 0)) ∙ e)
       go (inr e) = inr (e .0, occupied-is (arraysOf room) (k .sound) ∙ e .1)
 
--- Rooms that mean the same look the same. What they may differ in is where a node stands inside its heap, and what stands in the slots of a job that
--- neither waits nor is called: that is written before it is read.
+-- Rooms that mean the same look the same.
 pub seen-alike : (room room′ : Room) → Kept (arraysOf room) → Kept (arraysOf room′) → meaning room ≡ meaning room′ →
     ((j : ℕ) → getD (room .standing) j 0 ≡ getD (room′ .standing) j 0) × (room .values ≡ room′ .values) × (room .«next_ticket» ≡ room′ .«next_ticket»)
 seen-alike room room′ k k′ e = (λ j. look-standing room k j ∙ ap (λ r. standingCode (standing r j)) e ∙ sym (look-standing room′ k′ j), ap (λ (r : rules.Room). r .values) e, ap (λ (r : rules.Room). r .nextTicket) e)

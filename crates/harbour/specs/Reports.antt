@@ -10,13 +10,16 @@ use Rattle.rules.specs.Base.{if_then_else_}
 use Rattle.rules.specs.Room.{Room}
 use Rattle.rules.specs.Step.{accepted, refusal, nothing}
 use Rattle.rules.specs.Step as rules
+use Rattle.rules.specs.Record.{event}
 use Rattle.rules.specs.Tally.{take}
 use Rattle.rules.specs.Demands.Answers.{Answers, every-event-is-answered}
 use Rattle.fields.specs.Answers.{placeOf}
 use Rattle.room.specs.Arrays.{Arrays, roomOf}
+use Rattle.room.specs.Stores.{storeOf, storeAfter}
 use Rattle.room.specs.Kept.{Kept}
 use Rattle.room.specs.Reports.{outcomeOf, jobIn, outcomeCode, jobCode, outcome-coded, job-coded}
-use Rattle.event.specs.Takes.{Takes, PlainTaken, Unchanged, placeIn, place-is, takenReport}
+use Rattle.event.specs.Answers.{PlainTaken, Unchanged, placeIn, place-is, takenReport}
+use Rattle.event.specs.Takes.{Takes}
 use Rattle.event.specs.declared.Taken.{Taken}
 use Rattle.event.specs.declared.Taken.the-variants.{Accepted, Refused, Nothing}
 use Rattle.harbour.specs.declared.report.Report.{Report}
@@ -45,6 +48,7 @@ pub record Reports (a b : Arrays) (bytes : List ℕ) (r : Report) : Type 0 where
   pub report : r ≡ hostReport (take (roomOf a) bytes .result .report) (placeOf bytes (take (roomOf a) bytes .rest))
   pub means : reportOf r ≡ take (roomOf a) bytes .result .report
   pub room : roomOf b ≡ take (roomOf a) bytes .result .room
+  pub store : storeOf b ≡ storeAfter a (event (a .measures) bytes) (take (roomOf a) bytes .result .report)
   pub kept : Kept b
   pub same : Same (take (roomOf a) bytes .result .report) a b
 
@@ -99,6 +103,7 @@ reports {a} {b} {bytes} {t} {r} k e = record {
   report = e ∙ told-is t (k .plain) ∙ (λ i. hostReport (k .report i) (place-told t k i));
   means = ap reportOf e ∙ told-means t (k .plain) ∙ k .report;
   room = k .room;
+  store = k .store;
   kept = k .kept;
   same = subst (λ u. Same u a b) (k .report) (same-as a b t (k .same));
 }

@@ -3,7 +3,7 @@ ghost use mathlib.Core.Path.{_≡_};
 ghost use Prim.Native.Nat.{_≤_};
 ghost use Rattle.rules.specs.Tally.{ones, backs};
 ghost use Rattle.room.specs.Reports.{outcomeOf, jobIn};
-ghost use Rattle.event.specs.Takes.{PlainTaken};
+ghost use Rattle.event.specs.Answers.{PlainTaken};
 ghost use Rattle.harbour.specs.Reports.{told as toldOf};
 ghost use Rattle.harbour.specs.Tallies.{notedTally};
 use event::Taken;

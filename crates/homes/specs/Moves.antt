@@ -45,16 +45,20 @@ pub record Cut (rank : ℕ → ℕ) (l lengths m lengths′ : List ℕ) (home x 
   pub past : (j : ℕ) → getD lengths home 0 ≤ j → getD (region m home) j 0 ≡ getD (region l home) j 0
   pub others : (h : ℕ) → h < 34 → (h ≡ home → ⊥) → region m h ≡ region l h
 
--- the place after n nodes cleared: the nodes stand as they stood
-pub removed-cleared : (parent : ℕ → ℕ) (lt : (j : ℕ) → 0 < j → parent j < j) (rank : ℕ → ℕ) (l p : List ℕ) (n i : ℕ) → Removed parent rank l p n i → Removed parent rank l (set p n 0) n i
+-- a node left n + 1, and the place it freed was cleared: the nodes stand as they stood
+record CutOut (parent rank : ℕ → ℕ) (l m : List ℕ) (n k : ℕ) : Type 0 where
+  pub order : Ordered parent (value rank l) (n + 1) → Ordered parent (value rank m) n
+  pub has : (z : ℕ) → count m n z + is (getD l k 0) z ≡ count l (n + 1) z
+  pub past : (j : ℕ) → n + 1 ≤ j → getD m j 0 ≡ getD l j 0
+
+cut-out : (parent : ℕ → ℕ) (lt : (j : ℕ) → 0 < j → parent j < j) (rank : ℕ → ℕ) (l p : List ℕ) (n i : ℕ) → Removed parent rank l p n i → CutOut parent rank l (set p n 0) n i
 unfolding Ordered
-removed-cleared parent lt rank l p n i r =
+cut-out parent lt rank l p n i r =
     let same : (j : ℕ) → j < n → getD (set p n 0) j 0 ≡ getD p j 0 = λ j h. getD-set-other p n j 0 0 (omega arith) in
     record {
-      long = length-set p n 0 ∙ r .long;
       order = λ o j a b. omega (arith, r .order o j a b, ap rank (same j b), ap rank (same (parent j) (omega (arith, lt j a))));
       has = λ z. omega (arith, r .has z, count-same (set p n 0) p n z same);
-      past = λ j h. getD-set-other p n j 0 0 (omega arith) ∙ r .past j h;
+      past = λ j h. getD-set-other p n j 0 0 (omega arith) ∙ r .past j (omega arith);
     }
 
 -- a home that holds x is not empty, and x stands below its length; k is the number of its places
@@ -104,7 +108,7 @@ module _ (rank : ℕ → ℕ) (l lengths p : List ℕ) (home x k : ℕ) (fits : 
       let full : getD lengths home 0 ≡ n + 1 = omega (arith, some) in
       let before : length p ≡ 128 = part-long rank l lengths p home x k fits all one size (r .long) in
       let same : length q ≡ 128 = length-set p n 0 ∙ before in
-      let s : Removed (over home) rank (region l home) q n i = removed-cleared (over home) (over-lt home) rank (region l home) p n i (rw size at r) in
+      let s : CutOut (over home) rank (region l home) q n i = cut-out (over home) (over-lt home) rank (region l home) p n i (rw size at r) in
       let x′ : getD (region l home) i 0 ≡ x = (rw size at f) .here (omega (arith, has-place l lengths home x held k i size f)) in
       let here : region (putBack l (home * 128) 128 q) home ≡ q = region-here l q home fits one same in
       let new : getD (set lengths home n) home 0 ≡ n = getD-set-same lengths home n 0 (omega arith) in

@@ -29,8 +29,12 @@ module _ (s : ClosedSlots) (ticket entry high low places lengths : List ℕ) (q 
       let same : x % 128 ≡ x / 4 * 4 + x % 4 = omega (arith, waits-below entry 32 (x / 4) (omega (arith, q .size)) w) in
       ap (λ (y : ℕ). getD low y 0) same ∙ q .words (x / 4) (x % 4) w (omega arith) .1
 
-  pub nodes-apart : (y z : ℕ) → getD low (y % 128) 0 < 2 ^ 64 → getD low (z % 128) 0 < 2 ^ 64 → isNode s entry y ≡ true → isNode s entry z ≡ true → rank high low y ≡ rank high low z → y ≡ z
-  nodes-apart y z a b f g e =
-      let l = two-low (getD high (y % 128) 0) (getD low (y % 128) 0) (getD high (z % 128) 0) (getD low (z % 128) 0) a b e in
-      let j : y / 4 ≡ z / 4 = q .distinct (y / 4) (z / 4) (waits-of y f) (waits-of z g) (omega (arith, l, low-of y f, low-of z g)) in
-      omega (arith, j, l, low-of y f, low-of z g, ap (λ (u : ℕ). getD ticket u 0) j)
+  module _ (tickets : (j : ℕ) → getD ticket j 0 < 2 ^ 32) where
+    pub low-fits : (x : ℕ) → isNode s entry x ≡ true → getD low (x % 128) 0 < 2 ^ 64
+    low-fits x t = omega (arith, low-of x t, tickets (x / 4))
+
+    pub nodes-apart : (y z : ℕ) → isNode s entry y ≡ true → isNode s entry z ≡ true → rank high low y ≡ rank high low z → y ≡ z
+    nodes-apart y z f g e =
+        let l = two-low (getD high (y % 128) 0) (getD low (y % 128) 0) (getD high (z % 128) 0) (getD low (z % 128) 0) (low-fits y f) (low-fits z g) e in
+        let j : y / 4 ≡ z / 4 = q .distinct (y / 4) (z / 4) (waits-of y f) (waits-of z g) (omega (arith, l, low-of y f, low-of z g)) in
+        omega (arith, j, l, low-of y f, low-of z g, ap (λ (u : ℕ). getD ticket u 0) j)

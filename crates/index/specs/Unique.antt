@@ -3,7 +3,7 @@
 use mathlib.Core.Path.{_≡_, sym, ap, _∙_}
 use mathlib.Core.Bool.{true, _&&_}
 use mathlib.Core.List.{List}
-use Prim.Native.Nat.{ℕ, _^_, _<_, _≤_, _%_}
+use Prim.Native.Nat.{ℕ, _^_, _<_, _≤_}
 use native.Mathlib.Omega.{arith}
 use lib.Dec.{eqb, ltb}
 use lib.ListN.{getD}
@@ -53,11 +53,10 @@ module _ (s : ClosedSlots) (ticket high low entry entry′ places places′ leng
     contents = same-contents;
   }
 
-  -- every low word is a word of 64 bits
-  pub rows-unique : ((k : ℕ) → getD low k 0 < 2 ^ 64) → (h : ℕ) → 32 ≤ h → h < 34 → region places h ≡ region places′ h
-  rows-unique fits h row p =
+  pub rows-unique : ((j : ℕ) → getD ticket j 0 < 2 ^ 32) → (h : ℕ) → 32 ≤ h → h < 34 → region places h ≡ region places′ h
+  rows-unique tickets h row p =
       rows-same (rank high low) places places′ lengths lengths′ (q .filed .long) (q′ .filed .long) h row p (same-length h p) (q .filed .order h p) (q′ .filed .order h p) (q .filed .cleared h p)
-      (q′ .filed .cleared h p) (λ z. same-contents h z p) (λ y z a b e. nodes-apart s ticket entry high low places lengths q y z (fits (y % 128)) (fits (z % 128)) (there y a) (there z b) e)
+      (q′ .filed .cleared h p) (λ z. same-contents h z p) (λ y z a b e. nodes-apart s ticket entry high low places lengths q tickets y z (there y a) (there z b) e)
     where
       there : (x : ℕ) → 0 < holds places lengths h x → isNode s entry x ≡ true
       there x a = bit-some (isNode s entry x) (eqb (homeIn s x) h) (omega (arith, q .filed .has h x p))

@@ -89,4 +89,4 @@ pub record Removed (parent rank : ℕ → ℕ) (l m : List ℕ) (n k : ℕ) : Ty
   pub long : length m ≡ length l
   pub order : Ordered parent (value rank l) (n + 1) → Ordered parent (value rank m) n
   pub has : (z : ℕ) → count m n z + is (getD l k 0) z ≡ count l (n + 1) z
-  pub past : (j : ℕ) → n + 1 ≤ j → getD m j 0 ≡ getD l j 0
+  pub past : (j : ℕ) → n ≤ j → getD m j 0 ≡ getD l j 0

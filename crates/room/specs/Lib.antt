@@ -1,5 +1,6 @@
 -- The room over lent arrays: what it is, what it keeps, and each event.
 pub mod Arrays
+pub mod Stores
 pub mod Kept
 pub mod Standings
 pub mod Calls

@@ -106,10 +106,10 @@ module _ (q : Searchable) where
       }
 
   pub low-fits : (x : ℕ) → node x ≡ true → getD (q .low) (x % 128) 0 < 2 ^ 64
-  low-fits x n = omega (arith, node-is x n .low-is, q .ticket-fits (x / 4))
+  low-fits x n = apart.low-fits (q .slots) (q .ticket) (q .entry) (q .high) (q .low) (q .places) (q .lengths) (q .index) (q .ticket-fits) x n
 
   pub nodes-apart : (y z : ℕ) → node y ≡ true → node z ≡ true → rankOf y ≡ rankOf z → y ≡ z
-  nodes-apart y z f g e = apart.nodes-apart (q .slots) (q .ticket) (q .entry) (q .high) (q .low) (q .places) (q .lengths) (q .index) y z (low-fits y f) (low-fits z g) f g e
+  nodes-apart y z f g e = apart.nodes-apart (q .slots) (q .ticket) (q .entry) (q .high) (q .low) (q .places) (q .lengths) (q .index) (q .ticket-fits) y z f g e
 
   pub by-word : (x y : ℕ) → node x ≡ true → wordOf (q .high) x < wordOf (q .high) y → rankOf x < rankOf y
   by-word x y n h = two-less (wordOf (q .high) x) (getD (q .low) (x % 128) 0) (wordOf (q .high) y) (getD (q .low) (y % 128) 0) (low-fits x n) h

@@ -27,23 +27,28 @@ use Rattle.index.specs.Changes.{WordsOf, JoinedIndex}
 use Rattle.index.specs.Elsewhere.{tag-kept, index-elsewhere}
 use Rattle.search.specs.Live.{SlotsFit}
 use Rattle.search.specs.declared.Answer.{Answer}
+use Rattle.search.specs.declared.Answer.the-variants.{Calls, Nobody}
 use Rattle.room.specs.Arrays.{Arrays, arrays, standingAt, roomOf}
+use Rattle.room.specs.Stores.{storeOf, begun, storeWaited}
 use Rattle.room.specs.Kept.{Sound}
 use Rattle.room.specs.Standings.{standings-set, code-waiting}
 use Rattle.room.specs.Calls.{moved, CallsNext}
 use Rattle.room.specs.Tickets.{withNext, calls-next}
 use Rattle.room.specs.Reports.{meaning, searchReport, search-not, Plain}
-use Rattle.room.specs.Steps.{Stepped}
 use Rattle.room.specs.Searches.{waitingIn, search-room, search-report, search-plain, search-others, search-held}
 use Rattle.room.specs.Joins.{MayJoin}
 use Rattle.room.specs.Assigns.{inside-test}
 use Rattle.wait.specs.Stored.{stored-sized, stored-fit, stored-counts, stored-same, stored-conditions, words-long, words-here, words-elsewhere}
-use Rattle.wait.specs.Waits.{GivenFit, waitsFor, waitEvent, true-is}
+use Rattle.wait.specs.Waits.{GivenFit, Waited, waitsFor, true-is}
 use Rattle.room.specs.declared.report.Report.{Report}
 
 give-call : (f : Option Pair) (r : Room) → giveTicket (call f r) ≡ call f (giveTicket r)
 give-call none r = refl
 give-call (some p) r = refl
+
+search-fills : (a : Arrays) (job : ℕ) (g : GivenSlots) (r : Answer) → storeWaited a job g (meaning (searchReport 2 r)) ≡ begun a job g
+search-fills a job g (Calls called count) = refl
+search-fills a job g (Nobody count) = refl
 
 module _ (a : Arrays) (k : Sound a) (job : ℕ) (small : job < 32) (g : GivenSlots) (fit : GivenFit (a .measures) g) (inside : getD (a .standing) job 0 ≡ 2)
     (given : (j : ℕ) → 3 ≤ getD (a .standing) j 0 → getD (a .ticket) j 0 < a .next)
@@ -175,15 +180,28 @@ module _ (a : Arrays) (k : Sound a) (job : ℕ) (small : job < 32) (g : GivenSlo
           mid ∙ ap (λ x. giveTicket (stand job (waiting (waitsFor a k job small g) (a .next)) x)) (search-room a k st entry places lengths r n)
           ∙ ap (stand job (waiting (waitsFor a k job small g) (a .next))) (give-call (found (now (roomOf a)) (waitingIn a k)) (roomOf a))
 
-      pub begins : conditionTrue (nowAt (a .coefficients) (a .values)) (waitsFor a k job small g) ≡ false → {u : Report} → u ≡ searchReport 2 r → Stepped a b (waitEvent a k job small g) u
+      new-store : storeOf b ≡ begun a job g
+      new-store = λ i. record {
+        coefficients = a .coefficients;
+        measures = a .measures;
+        ticket = t′;
+        slots = is i;
+        high = (high-is ∙ ap (λ s. sets (a .high) (job * 4) (from (λ p. highWord (tagIn s (job * 4 + p))) 4 0)) is) i;
+        low = low-is i;
+      }
+
+      pub begins : conditionTrue (nowAt (a .coefficients) (a .values)) (waitsFor a k job small g) ≡ false → {u : Report} → u ≡ searchReport 2 r → Waited a b job g u
       begins f {u} e =
           let test = inside-test a k job small ∙ eq-eqb (getD (a .standing) job 0) 2 inside in
           let no = true-is a k job small g inside (sym f) in
           let few = lt-leb tickets (a .next) left in
           record {
-            report = rw (test, no, few) (ap meaning e ∙ search-report a k st entry places lengths r n 2);
-            room = rw (test, no, few) new-room;
-            sound = new-sound;
-            same = λ m o. absurd (search-not 2 r (sym e ∙ o));
-            plain = subst Plain (sym e) (search-plain a k st entry places lengths r n 2 (omega arith));
+            stepped = record {
+              report = rw (test, no, few) (ap meaning e ∙ search-report a k st entry places lengths r n 2);
+              room = rw (test, no, few) new-room;
+              sound = new-sound;
+              same = λ m o. absurd (search-not 2 r (sym e ∙ o));
+              plain = subst Plain (sym e) (search-plain a k st entry places lengths r n 2 (omega arith));
+            };
+            store = new-store ∙ sym (ap (λ x. storeWaited a job g (meaning x)) e ∙ search-fills a job g r);
           }

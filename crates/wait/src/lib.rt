@@ -6,14 +6,12 @@ ghost use Prim.Native.Nat.{ℕ, _<_, _≤_};
 ghost use lib.ListN.{getD};
 ghost use Rattle.rules.specs.Limits.{tickets};
 ghost use Rattle.rules.specs.Condition.{conditionTrue, closure};
-ghost use Rattle.rules.specs.Step as rules;
 ghost use Rattle.condition.specs.Measures.{nowAt};
 ghost use Rattle.condition.specs.Closing.{closedSlots, givenSlots};
 ghost use Rattle.condition.specs.Closes.{givenCondition};
 ghost use Rattle.room.specs.Arrays.{arrays};
 ghost use Rattle.room.specs.Kept.{Sound};
-ghost use Rattle.room.specs.Steps.{Stepped};
-ghost use Rattle.wait.specs.Waits.{GivenFit};
+ghost use Rattle.wait.specs.Waits.{GivenFit, Waited};
 use condition::closure::close;
 use filing::write_words;
 use given::given_true;
@@ -55,13 +53,13 @@ fn begin_to_wait(
         (now entry) (now high) (now low) (now places) (now lengths) measures (now «next_ticket»)) ⌝ }
     requires { ⌜ getD (now standing) job 0 ≡ 2 ⌝ ∗ ⌜ now «next_ticket» < tickets ⌝ }
     requires { ⌜ conditionTrue (nowAt (now coefficients) (now values)) (closure (now locals) (givenCondition (givenSlots count (now counts) (now «given_measure») (now «given_operator») (now «given_coefficients») (now constant) (now locals)))) ≡ false ⌝ }
-    ensures { λ r. ⌜ Stepped (arrays (now (coefficients .entry)) (now (values .entry)) (now (standing .entry)) (now (ticket .entry))
+    ensures { λ r. ⌜ Waited (arrays (now (coefficients .entry)) (now (values .entry)) (now (standing .entry)) (now (ticket .entry))
         (closedSlots (now (alternatives .entry)) (now (atoms .entry)) (now (measure .entry)) (now (operator .entry)) (now (key .entry)))
         (now (entry .entry)) (now (high .entry)) (now (low .entry)) (now (places .entry)) (now (lengths .entry)) measures (now («next_ticket» .entry)))
         (arrays (now (coefficients .entry)) (now (values .entry)) (now (standing .exit)) (now (ticket .exit))
         (closedSlots (now (alternatives .exit)) (now (atoms .exit)) (now (measure .exit)) (now (operator .exit)) (now (key .exit)))
         (now (entry .exit)) (now (high .exit)) (now (low .exit)) (now (places .exit)) (now (lengths .exit)) measures (now («next_ticket» .exit)))
-        (rules.wait job (now (locals .entry)) (givenCondition (givenSlots count (now (counts .entry)) (now («given_measure» .entry)) (now («given_operator» .entry)) (now («given_coefficients» .entry)) (now (constant .entry)) (now (locals .entry))))) r ⌝ }
+        job (givenSlots count (now (counts .entry)) (now («given_measure» .entry)) (now («given_operator» .entry)) (now («given_coefficients» .entry)) (now (constant .entry)) (now (locals .entry))) r ⌝ }
 {
     let given = *next_ticket;
     let answer = call_next(
@@ -147,13 +145,13 @@ pub fn wait(
     requires { ⌜ GivenFit measures (givenSlots count (now counts) (now «given_measure») (now «given_operator») (now «given_coefficients») (now constant) (now locals)) ⌝ }
     requires { ⌜ Sound (arrays (now coefficients) (now values) (now standing) (now ticket) (closedSlots (now alternatives) (now atoms) (now measure) (now operator) (now key))
         (now entry) (now high) (now low) (now places) (now lengths) measures (now «next_ticket»)) ⌝ }
-    ensures { λ r. ⌜ Stepped (arrays (now (coefficients .entry)) (now (values .entry)) (now (standing .entry)) (now (ticket .entry))
+    ensures { λ r. ⌜ Waited (arrays (now (coefficients .entry)) (now (values .entry)) (now (standing .entry)) (now (ticket .entry))
         (closedSlots (now (alternatives .entry)) (now (atoms .entry)) (now (measure .entry)) (now (operator .entry)) (now (key .entry)))
         (now (entry .entry)) (now (high .entry)) (now (low .entry)) (now (places .entry)) (now (lengths .entry)) measures (now («next_ticket» .entry)))
         (arrays (now (coefficients .entry)) (now (values .entry)) (now (standing .exit)) (now (ticket .exit))
         (closedSlots (now (alternatives .exit)) (now (atoms .exit)) (now (measure .exit)) (now (operator .exit)) (now (key .exit)))
         (now (entry .exit)) (now (high .exit)) (now (low .exit)) (now (places .exit)) (now (lengths .exit)) measures (now («next_ticket» .exit)))
-        (rules.wait job (now (locals .entry)) (givenCondition (givenSlots count (now (counts .entry)) (now («given_measure» .entry)) (now («given_operator» .entry)) (now («given_coefficients» .entry)) (now (constant .entry)) (now (locals .entry))))) r ⌝ }
+        job (givenSlots count (now (counts .entry)) (now («given_measure» .entry)) (now («given_operator» .entry)) (now («given_coefficients» .entry)) (now (constant .entry)) (now (locals .entry))) r ⌝ }
 {
     if standing[job] == 2 {
         if given_true(

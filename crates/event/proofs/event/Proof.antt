@@ -1,12 +1,12 @@
 -- `event` meets its contract: one law for each head.
 use borrow.Author.Needs.{needs}
-use mathlib.Core.Path.{sym, _∙_, subst}
+use mathlib.Core.Path.{refl, sym, _∙_, subst}
 use lib.Dec.{lit<}
 use Rattle.rules.specs.Limits.{valueMost}
 use Rattle.rules.specs.Laws.Bounds.{Within}
 use Rattle.integers.specs.Machine.{is, held}
 use Rattle.room.specs.Tickets.{sound-next}
-use Rattle.event.specs.Takes.{arrive-small, admit-small, leave-small, set-fits, takes-arrive, takes-admit, takes-set, takes-leave, takes-refused, takes-nothing}
+use Rattle.event.specs.TakesHead.{arrive-small, admit-small, leave-small, set-fits, takes-arrive, takes-admit, takes-set, takes-leave, takes-refused, takes-nothing}
 use Rattle.event.proofs.event.Statement.{statement}
 use Rattle.event.proofs.event.Tie as tie
 
@@ -38,7 +38,7 @@ admitted c =
     let h = v .before .before .before .before .before .before .before .before .before .before .before .before .before .before .before in
     let r = h .before .before in
     let s = r .before .before .before .before in
-    takes-admit _ (s .pre) (s .args .bytes .now) (s .args .at) (r .read-head .ensures) (h .head2 .given .1) (v .admit .ensures (s .args .next-ticket .now)) (c .with-place2 .ensures)
+    takes-admit _ (s .pre) (s .args .bytes .now) (s .args .at) (r .read-head .ensures) (h .head2 .given .1) (v .admit .ensures (s .args .next-ticket .now)) refl (c .with-place2 .ensures)
 
 assign-requires : tie.Need-assign-requires
 assign-requires c κs =
@@ -77,7 +77,7 @@ left c =
     let h = v .before .before .before .before .before .before .before .before .before .before .before .before .before .before .before in
     let r = h .before .before in
     let s = r .before .before .before .before in
-    takes-leave _ (s .pre) (s .args .bytes .now) (s .args .at) (r .read-head .ensures) (h .head5 .given .1) (v .leave .ensures (s .args .next-ticket .now)) (c .with-place4 .ensures)
+    takes-leave _ (s .pre) (s .args .bytes .now) (s .args .at) (r .read-head .ensures) (h .head5 .given .1) (v .leave .ensures (s .args .next-ticket .now)) refl (c .with-place4 .ensures)
 
 refused : tie.Need-returns-6
 refused c =

@@ -1,6 +1,6 @@
 -- `with_place` meets its contract: one law for each case.
 use borrow.Author.Needs.{needs}
-use Rattle.event.specs.Takes.{placed-accepted, placed-refused}
+use Rattle.event.specs.Answers.{placed-accepted, placed-refused}
 use Rattle.event.proofs.with_place.Statement.{statement}
 use Rattle.event.proofs.with_place.Tie as tie
 
