@@ -17,8 +17,8 @@ pub record Slots : Type 0 where
   pub key : List ℤ
   pub count : ℕ
 
-abbrev pub tagIn : Slots → Option Atom
-tagIn s = tagMeans (s .measure) (s .operator) (s .key) (tagAt (s .count ∷ []) (s .operator) 0)
+abbrev pub tagOf : Slots → Option Atom
+tagOf s = tagMeans (s .measure) (s .operator) (s .key) (tagAt (s .count ∷ []) (s .operator) 0)
 
 abbrev pub tags : List Slots
 tags =
@@ -31,7 +31,7 @@ abbrev atom : ℕ → ℕ → ℕ → Atom
 atom measure operator key = record { measure = measure; operator = operator; key = pos key }
 
 -- (x < 5 and y = 3) has the tag y = 3; (x = 8 and y = 9) has x = 8; (x ≠ 8) has none; and x − 2y > a − b with a = 11, b = 2 closes to key 9
-pub board-slots : (map tagIn tags ≡ some (atom 1 1 3) ∷ some (atom 0 1 8) ∷ none ∷ [])
+pub board-slots : (map tagOf tags ≡ some (atom 1 1 3) ∷ some (atom 0 1 8) ∷ none ∷ [])
     × (keyAt (pos 1 ∷ negsuc 0 ∷ pos 0 ∷ pos 0 ∷ []) (pos 11 ∷ pos 2 ∷ pos 0 ∷ pos 0 ∷ []) (pos 0 ∷ []) 0 ≡ pos 9)
 unfolding sum firstPlace
 board-slots = (refl, refl)

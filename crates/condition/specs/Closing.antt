@@ -89,20 +89,20 @@ from-many f zero p = refl
 from-many f (suc n) p = ap suc (from-many f n (suc p))
 
 -- the first i are stored
-pub record Put {A : Type 0} (f : ℕ → A) (first : ℕ) (out₀ out : List A) (i : ℕ) : Type 0 where
+pub record StoredUpTo {A : Type 0} (f : ℕ → A) (first : ℕ) (out₀ out : List A) (i : ℕ) : Type 0 where
   pub is : out ≡ sets out₀ first (from f i 0)
 
 module _ {A : Type 0} (f : ℕ → A) (first : ℕ) (out₀ : List A) where
-  pub put-none : Put f first out₀ out₀ 0
+  pub put-none : StoredUpTo f first out₀ out₀ 0
   put-none = record { is = refl }
 
   -- a is what the machine stores for the next
-  pub put-more : (out : List A) (i : ℕ) {a : A} → a ≡ f i → Put f first out₀ out i → Put f first out₀ (set out (first + i) a) (i + 1)
+  pub put-more : (out : List A) (i : ℕ) {a : A} → a ≡ f i → StoredUpTo f first out₀ out i → StoredUpTo f first out₀ (set out (first + i) a) (i + 1)
   put-more out i {a} e p = record {
     is = (λ k. set (p .is k) (first + i) (e k))
         ∙ ap (λ n. set (sets out₀ first (from f i 0)) (first + n) (f i)) (sym (from-many f i 0)) ∙ sym (sets-more out₀ first (from f i 0) (f i))
         ∙ ap (sets out₀ first) (ap (λ k. from f i 0 ++ (f k ∷ [])) (sym (zero-add i)) ∙ sym (from-more f i 0) ∙ ap (λ n. from f n 0) (sym (add-one i)));
   }
 
-  pub put-all : {n i : ℕ} {out : List A} → n ≡ i → Put f first out₀ out i → out ≡ sets out₀ first (from f n 0)
+  pub put-all : {n i : ℕ} {out : List A} → n ≡ i → StoredUpTo f first out₀ out i → out ≡ sets out₀ first (from f n 0)
   put-all e p = p .is ∙ ap (λ n. sets out₀ first (from f n 0)) (sym e)

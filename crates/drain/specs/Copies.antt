@@ -8,7 +8,7 @@ use lib.ListN.{getD, set, length, length-set}
 use lib.Seq.{getD-set-same, getD-set-other}
 use Rattle.rules.specs.Laws.Cases.{byEq}
 use Rattle.nodes.specs.Order.{Ordered}
-use Rattle.nodes.specs.Holes.{value}
+use Rattle.nodes.specs.Holes.{rankAt}
 use Rattle.nodes.specs.Sorted.{sorted, Apart}
 use Rattle.nodes.specs.Rises.{Removed}
 use Rattle.heap.specs.Places.{above, above-lt}
@@ -54,7 +54,7 @@ left-copied rank tag test l k m n before c f =
     }
 
 -- a heap whole, with nothing evaluated; and what is left in its copy when the root, whose alternative is false, is taken off
-module _ (rank : ℕ → ℕ) (tag test : ℕ → Bool) (l : List ℕ) (n : ℕ) (o : Ordered above (value rank l) n) (a : Apart rank (sorted rank l n)) where
+module _ (rank : ℕ → ℕ) (tag test : ℕ → Bool) (l : List ℕ) (n : ℕ) (o : Ordered above (rankAt rank l) n) (a : Apart rank (sorted rank l n)) where
   pub whole : Left rank tag test l n 0 (walked test (while tag (sorted rank l n)))
   whole = record { order = o; apart = a; leads = none-before test (while tag (sorted rank l n)) }
 

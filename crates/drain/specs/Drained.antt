@@ -11,14 +11,14 @@ use Rattle.rules.specs.Tag.{holds}
 use Rattle.rules.specs.Laws.InRankOrder.{upTo}
 use Rattle.condition.specs.Tags.{tagAt, tagMeans}
 use Rattle.nodes.specs.Order.{Ordered}
-use Rattle.nodes.specs.Holes.{value}
+use Rattle.nodes.specs.Holes.{rankAt}
 use Rattle.nodes.specs.Rises.{Removed}
-use Rattle.nodes.specs.Sorted.{sorted, times, Apart}
+use Rattle.nodes.specs.Sorted.{sorted, timesIn, Apart}
 use Rattle.heap.specs.Places.{above}
 use Rattle.heap.specs.Drains.{root-then-rest, root-heads}
 use Rattle.walk.specs.declared.Walk.{Walk}
 use Rattle.walk.specs.declared.Walk.the-variants.{Found, Nobody}
-use Rattle.walk.specs.Walks.{told, walkedOn}
+use Rattle.walk.specs.Walks.{asWalk, walkedOn}
 
 -- the tag of a node's alternative holds; a node is below 128
 abbrev pub nodeTag : List ℤ → List ℕ → List ℕ → List ℕ → List ℤ → ℕ → Bool
@@ -31,12 +31,12 @@ while tag (x ∷ l) = if tag x then x ∷ while tag l else []
 
 -- what is left in the heap, n nodes after so many evaluated, leads to w
 pub record Left (rank : ℕ → ℕ) (tag test : ℕ → Bool) (heap : List ℕ) (n before : ℕ) (w : Walk) : Type 0 where
-  pub order : Ordered above (value rank heap) n
+  pub order : Ordered above (rankAt rank heap) n
   pub apart : Apart rank (sorted rank heap n)
   pub leads : walkedOn test before (while tag (sorted rank heap n)) ≡ w
 
 module _ (rank : ℕ → ℕ) (tag test : ℕ → Bool) (heap : List ℕ) where
-  pub left-start : (n before : ℕ) → Ordered above (value rank heap) n → Apart rank (sorted rank heap n) →
+  pub left-start : (n before : ℕ) → Ordered above (rankAt rank heap) n → Apart rank (sorted rank heap n) →
       Left rank tag test heap n before (walkedOn test before (while tag (sorted rank heap n)))
   left-start n before o a = record { order = o; apart = a; leads = refl }
 
@@ -64,10 +64,10 @@ module _ (rank : ℕ → ℕ) (tag test : ℕ → Bool) (heap : List ℕ) where
             rw (r .1, sym d ∙ y, sym e ∙ f) at (c .leads)
 
         pub left-passes : (m : List ℕ) → u ≡ false → Removed above rank heap m (n - 1) 0 → Left rank tag test m (n - 1) (before + 1) w
-        unfolding walkedOn while times
+        unfolding walkedOn while timesIn
         left-passes m f r =
             let full : n ≡ n - 1 + 1 = omega arith in
-            let o : Ordered above (value rank heap) (n - 1 + 1) = rw full at (c .order) in
+            let o : Ordered above (rankAt rank heap) (n - 1 + 1) = rw full at (c .order) in
             let a : Apart rank (sorted rank heap (n - 1 + 1)) = rw full at (c .apart) in
             let s : sorted rank heap (n - 1 + 1) ≡ getD heap 0 0 ∷ sorted rank m (n - 1) = root-then-rest rank heap m (n - 1) o a r in
             let q : Apart rank (getD heap 0 0 ∷ sorted rank m (n - 1)) = rw s at a in
@@ -75,5 +75,5 @@ module _ (rank : ℕ → ℕ) (tag test : ℕ → Bool) (heap : List ℕ) where
             record {
               order = r .order o;
               apart = λ y z g h. q y z (omega arith) (omega arith);
-              leads = ap (told (first test (while tag (sorted rank m (n - 1))))) b ∙ (rw (full, s, sym d ∙ y, sym e ∙ f) at (c .leads));
+              leads = ap (asWalk (first test (while tag (sorted rank m (n - 1))))) b ∙ (rw (full, s, sym d ∙ y, sym e ∙ f) at (c .leads));
             }

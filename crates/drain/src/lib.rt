@@ -6,7 +6,7 @@ ghost use lib.ListN.{length};
 ghost use Rattle.condition.specs.Measures.{Ranges, nowAt};
 ghost use Rattle.nodes.specs.Ranks.{rank};
 ghost use Rattle.nodes.specs.Order.{Ordered};
-ghost use Rattle.nodes.specs.Holes.{value};
+ghost use Rattle.nodes.specs.Holes.{rankAt};
 ghost use Rattle.nodes.specs.Sorted.{sorted, Apart};
 ghost use Rattle.heap.specs.Places.{above};
 ghost use Rattle.walk.specs.Walks.{nodeTrue, walked, walkedOn};
@@ -49,7 +49,7 @@ fn drain(
     key: &[i64; 512],
 ) -> Walk
     requires { ⌜ n ≤ length (now heap) ⌝ ∗ ⌜ before ≤ 1 ⌝ ∗ ⌜ Ranges (now coefficients) (now values) (now key) ⌝ }
-    requires { ⌜ Ordered above (value (rank (now high) (now low)) (now heap)) n ⌝ ∗ ⌜ Apart (rank (now high) (now low)) (sorted (rank (now high) (now low)) (now heap) n) ⌝ }
+    requires { ⌜ Ordered above (rankAt (rank (now high) (now low)) (now heap)) n ⌝ ∗ ⌜ Apart (rank (now high) (now low)) (sorted (rank (now high) (now low)) (now heap) n) ⌝ }
     ensures { λ r. ⌜ r ≡ walkedOn (nodeTrue (nowAt (now (coefficients .entry)) (now (values .entry))) (now (atoms .entry)) (now (measure .entry)) (now (operator .entry)) (now (key .entry))) before
         (while (nodeTag (nowAt (now (coefficients .entry)) (now (values .entry))) (now (atoms .entry)) (now (measure .entry)) (now (operator .entry)) (now (key .entry)))
         (sorted (rank (now (high .entry)) (now (low .entry))) (now (heap .entry)) n)) ⌝ }
@@ -99,7 +99,7 @@ pub fn evaluate_heap(
     key: &[i64; 512],
 ) -> Walk
     requires { ⌜ n ≤ length (now heap) ⌝ ∗ ⌜ n ≤ 128 ⌝ ∗ ⌜ Ranges (now coefficients) (now values) (now key) ⌝ }
-    requires { ⌜ Ordered above (value (rank (now high) (now low)) (now heap)) n ⌝ ∗ ⌜ Apart (rank (now high) (now low)) (sorted (rank (now high) (now low)) (now heap) n) ⌝ }
+    requires { ⌜ Ordered above (rankAt (rank (now high) (now low)) (now heap)) n ⌝ ∗ ⌜ Apart (rank (now high) (now low)) (sorted (rank (now high) (now low)) (now heap) n) ⌝ }
     ensures { λ r. ⌜ r ≡ walked (nodeTrue (nowAt (now (coefficients .entry)) (now (values .entry))) (now (atoms .entry)) (now (measure .entry)) (now (operator .entry)) (now (key .entry)))
         (while (nodeTag (nowAt (now (coefficients .entry)) (now (values .entry))) (now (atoms .entry)) (now (measure .entry)) (now (operator .entry)) (now (key .entry)))
         (sorted (rank (now (high .entry)) (now (low .entry))) (now (heap .entry)) n)) ⌝ }

@@ -21,7 +21,7 @@ use Rattle.fields.specs.declared.number.Number.{Number}
 use Rattle.fields.specs.declared.number.Number.the-variants as number
 use Rattle.wire.specs.Heads.{headAt}
 use Rattle.wire.specs.Events.{HeadMeans, head-means}
-use Rattle.wire.specs.Waits.{WaitSlots, Body, numbers, asWait, localsOf, Waits}
+use Rattle.wire.specs.Waits.{WaitSlots, Body, numbers, asWait, localsOf, ReadsWait}
 use Rattle.condition.specs.Closes.{conditionIn, givenCondition}
 use Rattle.given.specs.Taken.{givenIn, taken}
 use Rattle.given.specs.Taken as given
@@ -62,9 +62,9 @@ module _ (a : Arrays) (k : Kept a) (bytes : List ℕ) (at job next : ℕ) (from 
   some-left e = let f : headAt bytes [] ≡ waitHead job next = ap (headAt bytes) (sym e) ∙ from in let y : _≡_ {A = ℕ} 0 1 = cc in omega arith
 
   -- what `read_wait` answered, for as many measures as there are
-  module _ {m : ℕ} (is : m ≡ a .measures) {r : Number} {l : List ℤ} {s : WaitSlots} (waits₀ : Waits bytes (numbers m (drop next bytes)) r l s) where
-    waits : Waits bytes (numbers (a .measures) (drop next bytes)) r l s
-    waits = subst (λ n. Waits bytes (numbers n (drop next bytes)) r l s) is waits₀
+  module _ {m : ℕ} (is : m ≡ a .measures) {r : Number} {l : List ℤ} {s : WaitSlots} (waits₀ : ReadsWait bytes (numbers m (drop next bytes)) r l s) where
+    waits : ReadsWait bytes (numbers (a .measures) (drop next bytes)) r l s
+    waits = subst (λ n. ReadsWait bytes (numbers n (drop next bytes)) r l s) is waits₀
 
     no-numbers : {n : ℕ} → r ≡ number.Refused n → numbers (a .measures) (drop next bytes) ≡ refused n
     no-numbers {n} e = go (numbers (a .measures) (drop next bytes)) (sym e ∙ waits .0)
@@ -79,7 +79,7 @@ module _ (a : Arrays) (k : Kept a) (bytes : List ℕ) (at job next : ℕ) (from 
         subst (λ i. Takes a a bytes at (Refused i at)) (sym (q ∙ ap refusalIn e)) (by-refusal a k bytes at some-left d)
 
     module _ {count next₂ : ℕ} (got : r ≡ number.Got count next₂) where
-      t : given.Taken (a .measures) bytes next count next₂ l s
+      t : given.WaitTaken (a .measures) bytes next count next₂ l s
       t = taken (a .measures) bytes next waits got
 
       abbrev read-event : Event

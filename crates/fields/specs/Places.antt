@@ -8,7 +8,7 @@ use lib.IntN.{ℤ}
 use lib.ListN.{length, drop, length-drop, drop-of-length-le}
 use lib.Seq.{drop-drop}
 use Rattle.rules.specs.Number.{Read, read, refused, Reader}
-use Rattle.rules.specs.Laws.Readers.{Took, Sound}
+use Rattle.rules.specs.Laws.Readers.{Took, SoundReader}
 use Rattle.fields.specs.Answers.{placeOf, asNumber, asSigned}
 use Rattle.fields.specs.declared.number.Number.{Number}
 use Rattle.fields.specs.declared.number.Number.the-variants as number
@@ -32,14 +32,14 @@ at-place bytes at {rest} t = go (decLe (at + t .count) (length bytes))
         e ∙ sym (ap (λ l. drop (placeOf bytes l) bytes) e ∙ drop-of-length-le bytes {i = placeOf bytes []} (omega arith))
 
 -- what an answer tells of the reader that it stands for: it read, and what is left stands from the next place on
-module _ {A : Type 0} {k : ℕ} {P : A → Type 0} {p : Reader A} (s : Sound k P p) (bytes : List ℕ) (at : ℕ) where
+module _ {A : Type 0} {k : ℕ} {P : A → Type 0} {p : Reader A} (s : SoundReader k P p) (bytes : List ℕ) (at : ℕ) where
   abbrev pub ReadTo : A → ℕ → Type 0
   ReadTo a next = (p (drop at bytes) ≡ read a (drop next bytes)) × (next ≤ length bytes)
 
   placed : (a : A) (next : ℕ) (rest : List ℕ) → p (drop at bytes) ≡ read a rest → next ≡ placeOf bytes rest → ReadTo a next
   placed a next rest d b = (d ∙ ap (read a) (at-place bytes at (s .gives (drop at bytes) a rest d .1) ∙ ap (λ j. drop j bytes) (sym b)), omega arith)
 
-module _ {k : ℕ} {P : ℕ → Type 0} {p : Reader ℕ} (s : Sound k P p) (bytes : List ℕ) (at : ℕ) {r : Number} (from : r ≡ asNumber bytes (p (drop at bytes))) where
+module _ {k : ℕ} {P : ℕ → Type 0} {p : Reader ℕ} (s : SoundReader k P p) (bytes : List ℕ) (at : ℕ) {r : Number} (from : r ≡ asNumber bytes (p (drop at bytes))) where
   pub number-read : {n next : ℕ} → r ≡ number.Got n next → ReadTo s bytes at n next
   number-read {n} {next} got = go (p (drop at bytes)) refl (sym got ∙ from)
     where
@@ -54,7 +54,7 @@ module _ {k : ℕ} {P : ℕ → Type 0} {p : Reader ℕ} (s : Sound k P p) (byte
       go (read m rest) d q = let z : _≡_ {A = ℕ} 0 1 = cc in absurd (omega arith)
       go (refused i) d q = let a : i ≡ j = cc in d ∙ ap refused a
 
-module _ {k : ℕ} {P : ℤ → Type 0} {p : Reader ℤ} (s : Sound k P p) (bytes : List ℕ) (at : ℕ) {r : Signed} (from : r ≡ asSigned bytes (p (drop at bytes))) where
+module _ {k : ℕ} {P : ℤ → Type 0} {p : Reader ℤ} (s : SoundReader k P p) (bytes : List ℕ) (at : ℕ) {r : Signed} (from : r ≡ asSigned bytes (p (drop at bytes))) where
   pub signed-read : {z : ℤ} {next : ℕ} → r ≡ signed.Got z next → ReadTo s bytes at z next
   signed-read {z} {next} got = go (p (drop at bytes)) refl (sym got ∙ from)
     where

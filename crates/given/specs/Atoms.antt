@@ -34,8 +34,8 @@ numbers = record {
 }
 
 -- ---- atoms, in a room with this many measures
-abbrev pub atomAt : AtomSlots → ℕ → Given
-atomAt s slot = record {
+abbrev pub givenAtomAt : AtomSlots → ℕ → Given
+givenAtomAt s slot = record {
   measure = getD (s .measure) slot 0;
   operator = getD (s .operator) slot 0;
   coefficients = from (numberAt (s .coefficients)) 4 (slot * 4);
@@ -56,7 +56,7 @@ module _ (measures : ℕ) where
   coefficients-of : {s : AtomSlots} → AtomsFit s → Coefficients (s .coefficients)
   coefficients-of g = record { many = g .coefficients-many; within = g .coefficients }
 
-  atom-same : (slot : ℕ) (s : AtomSlots) (a : Given) → slot < 16 → AtomsFit s → GivenFits measures a → atomAt (putAtom slot s a) slot ≡ a
+  atom-same : (slot : ℕ) (s : AtomSlots) (a : Given) → slot < 16 → AtomsFit s → GivenFits measures a → givenAtomAt (putAtom slot s a) slot ≡ a
   atom-same slot s a h g f =
       let n : length (a .coefficients) ≡ 4 = f .coefficients .0 in
       let c = all-back numbers (a .coefficients) (slot * 4) (s .coefficients) (omega arith) (coefficients-of g) (f .coefficients .1) in
@@ -67,7 +67,7 @@ module _ (measures : ℕ) where
         constant = getD-set-same (s .constant) slot (a .constant) (pos 0) (omega (arith, g .constants-many)) i;
       }
 
-  atom-kept : (slot k : ℕ) (s : AtomSlots) (a : Given) → k < slot → atomAt (putAtom slot s a) k ≡ atomAt s k
+  atom-kept : (slot k : ℕ) (s : AtomSlots) (a : Given) → k < slot → givenAtomAt (putAtom slot s a) k ≡ givenAtomAt s k
   atom-kept slot k s a h =
       let other : k ≡ slot → ⊥ = λ e. omega (arith, e) in
       let c = from-same (numberAt (putNumbers (slot * 4) (s .coefficients) (a .coefficients))) (numberAt (s .coefficients)) 4 (k * 4)
@@ -93,7 +93,7 @@ module _ (measures : ℕ) where
         constant = set-every (Within valueMost) (pos 0) (s .constant) slot (a .constant) (f .constant) (g .constant);
       }
 
-  pub atoms : Puts putAtom atomAt (GivenFits measures) AtomsFit 16
+  pub atoms : Puts putAtom givenAtomAt (GivenFits measures) AtomsFit 16
   atoms = record { same = atom-same; kept = atom-kept; good = atom-good }
 
   -- slots that nothing was put into, where there is a measure

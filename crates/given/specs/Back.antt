@@ -16,11 +16,11 @@ use Rattle.condition.specs.Closed.{from}
 use Rattle.condition.specs.Closing.{givenSlots}
 use Rattle.condition.specs.Closes.{givenCondition, from-same}
 use Rattle.given.specs.Slots.{Puts, all-kept, all-good, all-back, each-every}
-use Rattle.given.specs.Atoms.{AtomsFit, atomAt, atoms, no-atoms}
+use Rattle.given.specs.Atoms.{AtomsFit, givenAtomAt, atoms, no-atoms}
 
 -- ---- alternatives
 abbrev alternativeAt : WaitSlots → ℕ → List Given
-alternativeAt s i = from (atomAt (s .atoms)) (min (getD (s .counts) i 0) 4) (i * 4)
+alternativeAt s i = from (givenAtomAt (s .atoms)) (min (getD (s .counts) i 0) 4) (i * 4)
 
 module _ (measures : ℕ) where
   pub record WaitFits (s : WaitSlots) : Type 0 where
@@ -30,14 +30,14 @@ module _ (measures : ℕ) where
   alternative-same : (i : ℕ) (s : WaitSlots) (l : List Given) → i < 4 → WaitFits s → Parts (GivenFits measures) l → alternativeAt (putAlternative i s l) i ≡ l
   alternative-same i s l h g f =
       let n : min (length l) 4 ≡ length l = omega (arith, f .0 .1) in
-      ap (λ k. from (atomAt (putAtoms (i * 4) (s .atoms) l)) (min k 4) (i * 4)) (getD-set-same (s .counts) i (length l) 0 (omega (arith, g .many)))
-      ∙ ap (λ k. from (atomAt (putAtoms (i * 4) (s .atoms) l)) k (i * 4)) n
+      ap (λ k. from (givenAtomAt (putAtoms (i * 4) (s .atoms) l)) (min k 4) (i * 4)) (getD-set-same (s .counts) i (length l) 0 (omega (arith, g .many)))
+      ∙ ap (λ k. from (givenAtomAt (putAtoms (i * 4) (s .atoms) l)) k (i * 4)) n
       ∙ all-back (atoms measures) l (i * 4) (s .atoms) (omega (arith, f .0 .1)) (g .atoms) (f .1)
 
   alternative-kept : (i j : ℕ) (s : WaitSlots) (l : List Given) → j < i → alternativeAt (putAlternative i s l) j ≡ alternativeAt s j
   alternative-kept i j s l h =
-      ap (λ k. from (atomAt (putAtoms (i * 4) (s .atoms) l)) (min k 4) (j * 4)) (getD-set-other (s .counts) i j (length l) 0 (λ e. omega (arith, e)))
-      ∙ from-same (atomAt (putAtoms (i * 4) (s .atoms) l)) (atomAt (s .atoms)) (min (getD (s .counts) j 0) 4) (j * 4)
+      ap (λ k. from (givenAtomAt (putAtoms (i * 4) (s .atoms) l)) (min k 4) (j * 4)) (getD-set-other (s .counts) i j (length l) 0 (λ e. omega (arith, e)))
+      ∙ from-same (givenAtomAt (putAtoms (i * 4) (s .atoms) l)) (givenAtomAt (s .atoms)) (min (getD (s .counts) j 0) 4) (j * 4)
       (λ k m. all-kept (atoms measures) l (i * 4) (j * 4 + k) (s .atoms) (omega arith))
 
   alternative-good : (i : ℕ) (s : WaitSlots) (l : List Given) → WaitFits s → Parts (GivenFits measures) l → WaitFits (putAlternative i s l)

@@ -7,14 +7,14 @@ use Rattle.rules.specs.Limits.{locals, valueMost}
 use Rattle.rules.specs.Number.{read, times}
 use Rattle.rules.specs.Record.{value, condition}
 use Rattle.rules.specs.Laws.WellFormed.{Numbers, GivenFits, Parts, sound-value, sound-condition}
-use Rattle.rules.specs.Laws.Readers.{Sound, sound-pure, sound-then, sound-times}
+use Rattle.rules.specs.Laws.Readers.{SoundReader, sound-pure, sound-then, sound-times}
 use Rattle.wire.specs.Waits.{Body, numbers}
 
 module _ (measures : ℕ) where
   abbrev pub BodyFits : Body → Type 0
   BodyFits b = Parts (Parts (GivenFits measures)) (b .condition) × Numbers locals valueMost (b .locals)
 
-  pub sound-numbers : Sound 1 BodyFits (numbers measures)
+  pub sound-numbers : SoundReader 1 BodyFits (numbers measures)
   sound-numbers = sound-then (times locals value) _ (sound-times value sound-value locals) (λ l f.
       sound-then (condition measures) _ (sound-condition measures) (λ g i. sound-pure (record { locals = l; condition = g }) (i, f)))
 

@@ -12,7 +12,7 @@ use Rattle.rules.specs.Condition.{Given, closure}
 use Rattle.fields.specs.Answers.{placeOf}
 use Rattle.fields.specs.declared.number.Number.{Number}
 use Rattle.fields.specs.declared.number.Number.the-variants as number
-use Rattle.wire.specs.Waits.{WaitSlots, putAlternatives, noSlots, Body, numbers, Waits}
+use Rattle.wire.specs.Waits.{WaitSlots, putAlternatives, noSlots, Body, numbers, ReadsWait}
 use Rattle.condition.specs.Measures.{AllIn}
 use Rattle.condition.specs.Closing.{GivenSlots, givenSlots}
 use Rattle.condition.specs.Closes.{givenCondition}
@@ -28,7 +28,7 @@ abbrev pub slotsFor : List ℤ → List (List Given) → GivenSlots
 slotsFor locals condition = givenIn (length condition) (putAlternatives 0 noSlots condition) locals
 
 module _ (measures : ℕ) (bytes : List ℕ) (at : ℕ) where
-  pub record Taken (count next : ℕ) (l : List ℤ) (s : WaitSlots) : Type 0 where
+  pub record WaitTaken (count next : ℕ) (l : List ℤ) (s : WaitSlots) : Type 0 where
     pub body : Body
     pub rest : List ℕ
     pub reads : numbers measures (drop at bytes) ≡ read body rest
@@ -39,10 +39,10 @@ module _ (measures : ℕ) (bytes : List ℕ) (at : ℕ) where
     pub hold : givenIn count s l ≡ slotsFor (body .locals) (body .condition)
     pub closed : closure l (givenCondition (givenIn count s l)) ≡ closure (body .locals) (body .condition)
 
-  pub taken : {r : Number} {count next : ℕ} {l : List ℤ} {s : WaitSlots} → Waits bytes (numbers measures (drop at bytes)) r l s → r ≡ number.Got count next → Taken count next l s
+  pub taken : {r : Number} {count next : ℕ} {l : List ℤ} {s : WaitSlots} → ReadsWait bytes (numbers measures (drop at bytes)) r l s → r ≡ number.Got count next → WaitTaken count next l s
   taken {r} {count} {next} {l} {s} waits e = go (numbers measures (drop at bytes)) refl waits
     where
-      go : (x : Read Body) → numbers measures (drop at bytes) ≡ x → Waits bytes x r l s → Taken count next l s
+      go : (x : Read Body) → numbers measures (drop at bytes) ≡ x → ReadsWait bytes x r l s → WaitTaken count next l s
       go (read b rest) d w =
           let f = read-fits measures bytes at d in
           let counted : count ≡ length (b .condition) = cc in

@@ -8,7 +8,7 @@ use lib.ListN.{getD}
 use lib.Seq.{ext-getD}
 use Rattle.rules.specs.Room as rules
 use Rattle.homes.specs.Regions.{region}
-use Rattle.homes.specs.Moves.{holds}
+use Rattle.homes.specs.Moves.{timesInHome}
 use Rattle.index.specs.Index.{Index}
 use Rattle.index.specs.Unique.{SameIndex, index-unique, rows-unique}
 use Rattle.room.specs.Arrays.{Arrays, arrays}
@@ -25,7 +25,7 @@ pub record Alike (room room′ : Room) : Type 0 where
   -- every other number is the same
   pub others : withPlaces (arraysOf room) (room′ .places) ≡ arraysOf room′
   -- each home has the same nodes; the two rows have them in the same places
-  pub contents : (h x : ℕ) → h < 34 → holds (room .places) (room .lengths) h x ≡ holds (room′ .places) (room′ .lengths) h x
+  pub contents : (h x : ℕ) → h < 34 → timesInHome (room .places) (room .lengths) h x ≡ timesInHome (room′ .places) (room′ .lengths) h x
   pub rows : (h : ℕ) → 32 ≤ h → h < 34 → region (room .places) h ≡ region (room′ .places) h
 
 module _ (room room′ : Room) (k : Kept (arraysOf room)) (k′ : Kept (arraysOf room′)) (means : meaning room ≡ meaning room′) (store : storeOf (arraysOf room) ≡ storeOf (arraysOf room′)) where

@@ -21,7 +21,7 @@ use Rattle.rules.specs.Demands.Answers.{Answers, every-event-is-answered}
 use Rattle.rules.specs.Demands.Calls.{NoneTrue}
 use Rattle.rules.specs.Demands.Searches.{CalledTruly, step-calls-truly, Searches, search-reports, search-calls-nobody-exactly}
 use Rattle.rules.specs.Demands.Relay.{Relay}
-use Rattle.rules.specs.Demands.Reached.{after, Reached, reached-relay}
+use Rattle.rules.specs.Demands.Reached.{roomAfter, Reached, reached-relay}
 use Rattle.condition.specs.Closing.{closedSlots}
 use Rattle.index.specs.Index.{Index}
 use Rattle.fields.specs.Answers.{placeOf}
@@ -76,9 +76,9 @@ take-calls-truly : (r : rules.Room) (bytes : List ℕ) (j : ℕ) → calledIn (t
 take-calls-truly r [] j d = absurd (none-some d)
 take-calls-truly r (b ∷ bytes) j d = taken-calls-truly r (b ∷ bytes) (event (length (r .measures)) (b ∷ bytes)) j d
 
-run-after : {room room′ : Room} {tally tally′ : Tally} {events : List (List ℕ)} → Run room tally events room′ tally′ → after (meaning room) events ≡ meaning room′
+run-after : {room room′ : Room} {tally tally′ : Tally} {events : List (List ℕ)} → Run room tally events room′ tally′ → roomAfter (meaning room) events ≡ meaning room′
 run-after none-given = refl
-run-after (given {more = more} t u) = ap (λ r. after r more) (sym (t .room-after)) ∙ run-after u
+run-after (given {more = more} t u) = ap (λ r. roomAfter r more) (sym (t .room-after)) ∙ run-after u
 
 run-kept : {room room′ : Room} {tally tally′ : Tally} {events : List (List ℕ)} → Kept (arraysOf room) → Run room tally events room′ tally′ → Kept (arraysOf room′)
 run-kept k none-given = k
@@ -97,7 +97,7 @@ module _ {opened : List ℕ} {first room : Room} {first-tally tally : Tally} {ev
     rest = o .rest;
     opens = o .accepted;
     events = events;
-    came = ap (λ r. after r events) (sym (code-opens (o .said) (o .start) (o .rest) (o .accepted) .1)) ∙ run-after run;
+    came = ap (λ r. roomAfter r events) (sym (code-opens (o .said) (o .start) (o .rest) (o .accepted) .1)) ∙ run-after run;
   }
 
   pub code-kept : Kept (arraysOf room)

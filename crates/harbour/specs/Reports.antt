@@ -24,14 +24,14 @@ use Rattle.event.specs.declared.Taken.{Taken}
 use Rattle.event.specs.declared.Taken.the-variants.{Accepted, Refused, Nothing}
 use Rattle.harbour.specs.declared.report.Report.{Report}
 
-abbrev pub numbers : ℕ → ℕ → ℕ → ℕ → ℕ → Report
-numbers outcome job k count taken = record { outcome = outcome; job = job; refusal = k; count = count; taken = taken }
+abbrev pub reportNumbers : ℕ → ℕ → ℕ → ℕ → ℕ → Report
+reportNumbers outcome job k count taken = record { outcome = outcome; job = job; refusal = k; count = count; taken = taken }
 
 -- document 01's report and the bytes taken, in a host's numbers: outcomes 0 done, 1 in, 2 waits, 3 on, 4 back, 5 refused, 6 none left; job 32 for nobody
 abbrev pub hostReport : rules.Report → ℕ → Report
-hostReport (accepted outcome called count) taken = numbers (outcomeCode outcome) (jobCode called) 0 count taken
-hostReport (refusal k) taken = numbers 5 32 k 0 taken
-hostReport nothing taken = numbers 6 32 0 0 taken
+hostReport (accepted outcome called count) taken = reportNumbers (outcomeCode outcome) (jobCode called) 0 count taken
+hostReport (refusal k) taken = reportNumbers 5 32 k 0 taken
+hostReport nothing taken = reportNumbers 6 32 0 0 taken
 
 -- and back
 abbrev pub reportOf : Report → rules.Report
@@ -54,25 +54,25 @@ pub record Reports (a b : Arrays) (bytes : List ℕ) (r : Report) : Type 0 where
 
 -- ---- the answers of `told`
 abbrev pub told : Taken → Report
-told (Accepted outcome job count next) = numbers outcome job 0 count next
-told (Refused k next) = numbers 5 32 k 0 next
-told Nothing = numbers 6 32 0 0 0
+told (Accepted outcome job count next) = reportNumbers outcome job 0 count next
+told (Refused k next) = reportNumbers 5 32 k 0 next
+told Nothing = reportNumbers 6 32 0 0 0
 
 pub told-job : {t : Taken} {outcome job count next : ℕ} → t ≡ Accepted outcome job count next → PlainTaken t → job ≤ 32
 told-job e h = subst PlainTaken e h .1
 
-pub told-accepted : {t : Taken} {outcome job count next called : ℕ} → t ≡ Accepted outcome job count next → called ≡ job → numbers outcome called 0 count next ≡ told t
-told-accepted {outcome = o} {count = n} {next = p} e d = (λ i. numbers o (d i) 0 n p) ∙ ap told (sym e)
+pub told-accepted : {t : Taken} {outcome job count next called : ℕ} → t ≡ Accepted outcome job count next → called ≡ job → reportNumbers outcome called 0 count next ≡ told t
+told-accepted {outcome = o} {count = n} {next = p} e d = (λ i. reportNumbers o (d i) 0 n p) ∙ ap told (sym e)
 
-pub told-refused : {t : Taken} {k next : ℕ} → t ≡ Refused k next → numbers 5 32 k 0 next ≡ told t
+pub told-refused : {t : Taken} {k next : ℕ} → t ≡ Refused k next → reportNumbers 5 32 k 0 next ≡ told t
 told-refused e = ap told (sym e)
 
-pub told-nothing : {t : Taken} → t ≡ Nothing → numbers 6 32 0 0 0 ≡ told t
+pub told-nothing : {t : Taken} → t ≡ Nothing → reportNumbers 6 32 0 0 0 ≡ told t
 told-nothing e = ap told (sym e)
 
 -- ---- and what they mean
 told-is : (t : Taken) → PlainTaken t → told t ≡ hostReport (takenReport t) (placeIn t)
-told-is (Accepted o j n p) h = λ i. numbers (sym (outcome-coded o (h .0)) i) (sym (job-coded j (h .1)) i) 0 n p
+told-is (Accepted o j n p) h = λ i. reportNumbers (sym (outcome-coded o (h .0)) i) (sym (job-coded j (h .1)) i) 0 n p
 told-is (Refused k p) h = refl
 told-is Nothing h = refl
 

@@ -10,7 +10,7 @@ use lib.Dec.{ltb}
 use Rattle.rules.specs.Laws.Cases.{byEq}
 use Rattle.nodes.specs.Counts.{is, count-more}
 use Rattle.nodes.specs.Order.{Ordered, Hole, Kids, From, hole-down, hole-end, hole-at, kids-at}
-use Rattle.nodes.specs.Holes.{value, Moved, Filled, moved-more, filled}
+use Rattle.nodes.specs.Holes.{rankAt, Moved, Filled, moved-more, filled}
 use Rattle.nodes.specs.Rises.{InOrder, Risen, Removed, rises, rises-yes, rises-no}
 use Rattle.heap.specs.Places.{above, above-lt}
 
@@ -64,18 +64,18 @@ Down n x v i = Hole above v n i × From above v i x
 abbrev pub Sunk : (ℕ → ℕ) → List ℕ → List ℕ → ℕ → ℕ → ℕ → Type 0
 Sunk rank l m n k x = Filled rank (Down n (rank x)) (InOrder above n) l m n k x
 
-module _ (rank : ℕ → ℕ) (l m : List ℕ) (n k i x c : ℕ) (f : n ≤ length l) (r : Moved rank (Down n (rank x)) l m n k i) (s : Next (value rank m) n i (rank x) c) where
+module _ (rank : ℕ → ℕ) (l m : List ℕ) (n k i x c : ℕ) (f : n ≤ length l) (r : Moved rank (Down n (rank x)) l m n k i) (s : Next (rankAt rank m) n i (rank x) c) where
   pub sink-more : (c ≡ i → ⊥) → Moved rank (Down n (rank x)) l (set m i (getD m c 0)) n k c
   unfolding From
   sink-more d =
-      let g : LeastChild (value rank m) n i c × (value rank m c ≤ rank x) = s .go d in
+      let g : LeastChild (rankAt rank m) n i c × (rankAt rank m c ≤ rank x) = s .go d in
       moved-more rank (Down n (rank x)) l m n k i c f r (g .0 .below) d
-      (λ w a q. (hole-down above above-lt (value rank m) w n i (a .else) (q .0) c (g .0 .pos) (g .0 .below) (g .0 .child) (g .0 .least) (a .new), λ p. omega (arith, ap w (g .0 .child), a .new, g .1)))
+      (λ w a q. (hole-down above above-lt (rankAt rank m) w n i (a .else) (q .0) c (g .0 .pos) (g .0 .below) (g .0 .child) (g .0 .least) (a .new), λ p. omega (arith, ap w (g .0 .child), a .new, g .1)))
 
   pub sink-end : c ≡ i → Sunk rank l (set m i x) n k x
   sink-end d =
       filled rank (Down n (rank x)) l m n k i (InOrder above n) x f r
-      (λ w a q. hole-end above above-lt (value rank m) w n i (a .else) (q .0) (rank x) (q .1) (s .stop d) (a .new))
+      (λ w a q. hole-end above above-lt (rankAt rank m) w n i (a .else) (q .0) (rank x) (q .1) (s .stop d) (a .new))
 
 pub removed-last : (rank : ℕ → ℕ) (l : List ℕ) (n k : ℕ) → n ≡ k → Removed above rank l l n k
 unfolding Ordered
@@ -90,10 +90,10 @@ removed-last rank l n k e = record {
 module _ (rank : ℕ → ℕ) (l m : List ℕ) (n k : ℕ) where
   pub removed-rise : {t : Bool} → k < n → t ≡ rises above rank l k (getD l n 0) → t ≡ true → Risen above rank l m n k (getD l n 0) → Removed above rank l m n k
   removed-rise p e f r =
-      let y : (0 < k) × (rank (getD l n 0) < value rank l (above k)) = rises-yes above rank l k (getD l n 0) e f in
+      let y : (0 < k) × (rank (getD l n 0) < rankAt rank l (above k)) = rises-yes above rank l k (getD l n 0) e f in
       record {
         long = r .long;
-        order = λ o. r .order (hole-at above above-lt (value rank l) (n + 1) k n (omega arith) o, kids-at above above-lt (value rank l) (n + 1) k n _ (omega arith) o (y .0) (omega arith) (omega (arith, y .1)));
+        order = λ o. r .order (hole-at above above-lt (rankAt rank l) (n + 1) k n (omega arith) o, kids-at above above-lt (rankAt rank l) (n + 1) k n _ (omega arith) o (y .0) (omega arith) (omega (arith, y .1)));
         has = λ z. omega (arith, r .has z, count-more l n z);
         past = λ j q. r .past j (omega arith);
       }
@@ -102,7 +102,7 @@ module _ (rank : ℕ → ℕ) (l m : List ℕ) (n k : ℕ) where
   removed-sink p e f r =
       record {
         long = r .long;
-        order = λ o. r .order (hole-at above above-lt (value rank l) (n + 1) k n (omega arith) o, rises-no above rank l k (getD l n 0) e f);
+        order = λ o. r .order (hole-at above above-lt (rankAt rank l) (n + 1) k n (omega arith) o, rises-no above rank l k (getD l n 0) e f);
         has = λ z. omega (arith, r .has z, count-more l n z);
         past = λ j q. r .past j (omega arith);
       }

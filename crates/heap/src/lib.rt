@@ -4,7 +4,7 @@ ghost use mathlib.Core.Path.{_≡_};
 ghost use Prim.Native.Nat.{_+_, _*_, _<_, _≤_};
 ghost use lib.ListN.{length};
 ghost use Rattle.nodes.specs.Ranks.{rank};
-ghost use Rattle.nodes.specs.Holes.{value};
+ghost use Rattle.nodes.specs.Holes.{rankAt};
 ghost use Rattle.nodes.specs.Rises.{rises, Risen, Pushed, Removed};
 ghost use Rattle.heap.specs.Places.{above};
 ghost use Rattle.heap.specs.Sinks.{LeastChild, Next, Sunk};
@@ -46,7 +46,7 @@ pub fn push(heap: &mut [u8], high: &[u64; 128], low: &[u64; 128], n: usize, x: u
 // The child of place i that ranks first.
 fn least_child(heap: &[u8], high: &[u64; 128], low: &[u64; 128], n: usize, i: usize) -> usize
     requires { ⌜ 2 * i + 1 < n ⌝ ∗ ⌜ n ≤ length (now heap) ⌝ }
-    ensures { λ r. ⌜ LeastChild (value (rank (now (high .entry)) (now (low .entry))) (now (heap .entry))) n i r ⌝ }
+    ensures { λ r. ⌜ LeastChild (rankAt (rank (now (high .entry)) (now (low .entry))) (now (heap .entry))) n i r ⌝ }
 {
     let c = 2 * i + 1;
     let d = 2 * i + 2;
@@ -62,7 +62,7 @@ fn least_child(heap: &[u8], high: &[u64; 128], low: &[u64; 128], n: usize, i: us
 // Where the hole at place i goes when x sinks into it: to a child that ranks before x, or nowhere (i itself).
 fn goes_down(heap: &[u8], high: &[u64; 128], low: &[u64; 128], n: usize, i: usize, x: u8) -> usize
     requires { ⌜ i < n ⌝ ∗ ⌜ n ≤ length (now heap) ⌝ }
-    ensures { λ r. ⌜ Next (value (rank (now (high .entry)) (now (low .entry))) (now (heap .entry))) n i (rank (now (high .entry)) (now (low .entry)) x) r ⌝ }
+    ensures { λ r. ⌜ Next (rankAt (rank (now (high .entry)) (now (low .entry))) (now (heap .entry))) n i (rank (now (high .entry)) (now (low .entry)) x) r ⌝ }
 {
     if n <= 2 * i + 1 {
         return i;

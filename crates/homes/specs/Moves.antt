@@ -8,19 +8,19 @@ use lib.Seq.{getD-set-same, getD-set-other, length-take-le}
 use Rattle.rules.specs.Laws.Cases.{byLt}
 use Rattle.nodes.specs.Counts.{count, is, count-find, count-same}
 use Rattle.nodes.specs.Order.{Ordered}
-use Rattle.nodes.specs.Holes.{value}
+use Rattle.nodes.specs.Holes.{rankAt}
 use Rattle.nodes.specs.Rises.{Pushed, Removed}
 use Rattle.nodes.specs.Finds.{FirstPlace, none-counted}
 use Rattle.homes.specs.Orders.{over, over-lt}
 use Rattle.homes.specs.Regions.{region, putBack, back-long, region-here, region-other}
 
 -- how often node z stands in a home
-abbrev pub holds : List ℕ → List ℕ → ℕ → ℕ → ℕ
-holds l lengths home z = count (region l home) (getD lengths home 0) z
+abbrev pub timesInHome : List ℕ → List ℕ → ℕ → ℕ → ℕ
+timesInHome l lengths home z = count (region l home) (getD lengths home 0) z
 
 -- a home is in order
-abbrev pub InOrder : (ℕ → ℕ) → List ℕ → List ℕ → ℕ → Type 0
-InOrder rank l lengths home = Ordered (over home) (value rank (region l home)) (getD lengths home 0)
+abbrev pub HomeInOrder : (ℕ → ℕ) → List ℕ → List ℕ → ℕ → Type 0
+HomeInOrder rank l lengths home = Ordered (over home) (rankAt rank (region l home)) (getD lengths home 0)
 
 -- the places past a home's nodes hold 0
 abbrev pub Cleared : List ℕ → List ℕ → ℕ → Type 0
@@ -30,8 +30,8 @@ Cleared l lengths home = (j : ℕ) → getD lengths home 0 ≤ j → getD (regio
 pub record Put (rank : ℕ → ℕ) (l lengths m lengths′ : List ℕ) (home x : ℕ) : Type 0 where
   pub long : length m ≡ length l
   pub counted : lengths′ ≡ set lengths home (getD lengths home 0 + 1)
-  pub order : InOrder rank l lengths home → InOrder rank m lengths′ home
-  pub has : (z : ℕ) → holds m lengths′ home z ≡ holds l lengths home z + is x z
+  pub order : HomeInOrder rank l lengths home → HomeInOrder rank m lengths′ home
+  pub has : (z : ℕ) → timesInHome m lengths′ home z ≡ timesInHome l lengths home z + is x z
   pub past : (j : ℕ) → getD lengths home 0 + 1 ≤ j → getD (region m home) j 0 ≡ getD (region l home) j 0
   pub others : (h : ℕ) → h < 34 → (h ≡ home → ⊥) → region m h ≡ region l h
 
@@ -39,15 +39,15 @@ pub record Put (rank : ℕ → ℕ) (l lengths m lengths′ : List ℕ) (home x 
 pub record Cut (rank : ℕ → ℕ) (l lengths m lengths′ : List ℕ) (home x : ℕ) : Type 0 where
   pub long : length m ≡ length l
   pub counted : lengths′ ≡ set lengths home (getD lengths home 0 - 1)
-  pub order : InOrder rank l lengths home → InOrder rank m lengths′ home
-  pub has : (z : ℕ) → holds m lengths′ home z + is x z ≡ holds l lengths home z
+  pub order : HomeInOrder rank l lengths home → HomeInOrder rank m lengths′ home
+  pub has : (z : ℕ) → timesInHome m lengths′ home z + is x z ≡ timesInHome l lengths home z
   pub freed : getD (region m home) (getD lengths home 0 - 1) 0 ≡ 0
   pub past : (j : ℕ) → getD lengths home 0 ≤ j → getD (region m home) j 0 ≡ getD (region l home) j 0
   pub others : (h : ℕ) → h < 34 → (h ≡ home → ⊥) → region m h ≡ region l h
 
 -- a node left n + 1, and the place it freed was cleared: the nodes stand as they stood
 record CutOut (parent rank : ℕ → ℕ) (l m : List ℕ) (n k : ℕ) : Type 0 where
-  pub order : Ordered parent (value rank l) (n + 1) → Ordered parent (value rank m) n
+  pub order : Ordered parent (rankAt rank l) (n + 1) → Ordered parent (rankAt rank m) n
   pub has : (z : ℕ) → count m n z + is (getD l k 0) z ≡ count l (n + 1) z
   pub past : (j : ℕ) → n + 1 ≤ j → getD m j 0 ≡ getD l j 0
 
@@ -62,7 +62,7 @@ cut-out parent lt rank l p n i r =
     }
 
 -- a home that holds x is not empty, and x stands below its length; k is the number of its places
-module _ (l lengths : List ℕ) (home x : ℕ) (held : 0 < holds l lengths home x) where
+module _ (l lengths : List ℕ) (home x : ℕ) (held : 0 < timesInHome l lengths home x) where
   pub not-empty : 0 < getD lengths home 0
   not-empty =
       let s : (j : ℕ) × (j < getD lengths home 0) × (getD (region l home) j 0 ≡ x) = count-find (region l home) (getD lengths home 0) x held in
@@ -98,7 +98,7 @@ module _ (rank : ℕ → ℕ) (l lengths p : List ℕ) (home x k : ℕ) (fits : 
 
 -- the same where x stood at place i and left, and the place it freed was cleared
 module _ (rank : ℕ → ℕ) (l lengths p : List ℕ) (home x k : ℕ) (fits : length l ≡ 4352) (all : length lengths ≡ 34) (one : home < 34) (size : k ≡ 128) (most : getD lengths home 0 ≤ 128) where
-  pub cut-part : (i : ℕ) → 0 < holds l lengths home x → FirstPlace (take k (drop (home * 128) l)) (getD lengths home 0 - 1 + 1) x i →
+  pub cut-part : (i : ℕ) → 0 < timesInHome l lengths home x → FirstPlace (take k (drop (home * 128) l)) (getD lengths home 0 - 1 + 1) x i →
       Removed (over home) rank (take k (drop (home * 128) l)) p (getD lengths home 0 - 1) i →
       Cut rank l lengths (putBack l (home * 128) k (set p (getD lengths home 0 - 1) 0)) (set lengths home (getD lengths home 0 - 1)) home x
   cut-part i held f r =

@@ -7,7 +7,7 @@ ghost use lib.ListN.{getD, length};
 ghost use Rattle.nodes.specs.Ranks.{rank};
 ghost use Rattle.nodes.specs.Rises.{Pushed, Removed};
 ghost use Rattle.homes.specs.Orders.{over};
-ghost use Rattle.homes.specs.Moves.{holds, Put, Cut};
+ghost use Rattle.homes.specs.Moves.{timesInHome, Put, Cut};
 use nodes::place_of;
 
 // One node more among the first n places of a home: x.
@@ -62,7 +62,7 @@ pub fn cut(
     home: usize,
     x: u8,
 )
-    requires { ⌜ length (now places) ≡ 4352 ⌝ ∗ ⌜ length (now lengths) ≡ 34 ⌝ ∗ ⌜ home < 34 ⌝ ∗ ⌜ getD (now lengths) home 0 ≤ 128 ⌝ ∗ ⌜ 0 < holds (now places) (now lengths) home x ⌝ }
+    requires { ⌜ length (now places) ≡ 4352 ⌝ ∗ ⌜ length (now lengths) ≡ 34 ⌝ ∗ ⌜ home < 34 ⌝ ∗ ⌜ getD (now lengths) home 0 ≤ 128 ⌝ ∗ ⌜ 0 < timesInHome (now places) (now lengths) home x ⌝ }
     ensures { λ _. ⌜ Cut (rank (now (high .entry)) (now (low .entry))) (now (places .entry)) (now (lengths .entry)) (now (places .exit)) (now (lengths .exit)) home x ⌝ }
 {
     let start = home * 128;

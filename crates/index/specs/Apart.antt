@@ -12,7 +12,7 @@ use Rattle.condition.specs.Closing.{ClosedSlots}
 use Rattle.ranks.specs.Words.{lowWord}
 use Rattle.nodes.specs.Ranks.{two, rank}
 use Rattle.entries.specs.Entries.{Waits, isLead, waits-below}
-use Rattle.index.specs.Filed.{countIn, isNode}
+use Rattle.index.specs.Filed.{alternativesIn, isNode}
 use Rattle.index.specs.Index.{Index}
 
 two-low : (a b c d : ℕ) → b < 2 ^ 64 → d < 2 ^ 64 → two a b ≡ two c d → b ≡ d
@@ -21,7 +21,7 @@ two-low a b c d p q e = omega arith
 
 module _ (s : ClosedSlots) (ticket entry high low places lengths : List ℕ) (q : Index s ticket entry high low places lengths) where
   waits-of : (x : ℕ) → isNode s entry x ≡ true → Waits entry (x / 4)
-  waits-of x t = omega (arith, eqb-true (getD entry (x / 4) 0) (x / 4 + 1) (both (isLead entry (x / 4)) (ltb (x % 4) (countIn s (x / 4))) t .0))
+  waits-of x t = omega (arith, eqb-true (getD entry (x / 4) 0) (x / 4 + 1) (both (isLead entry (x / 4)) (ltb (x % 4) (alternativesIn s (x / 4))) t .0))
 
   low-of : (x : ℕ) → isNode s entry x ≡ true → getD low (x % 128) 0 ≡ lowWord (getD ticket (x / 4) 0) (x % 4)
   low-of x t =

@@ -11,8 +11,8 @@ use Rattle.rules.specs.Laws.Cases.{byEq}
 use Rattle.rules.specs.Base.{if_then_else_}
 use Rattle.rules.specs.Laws.In.{true-not-false}
 use Rattle.condition.specs.Closing.{ClosedSlots}
-use Rattle.homes.specs.Moves.{holds}
-use Rattle.index.specs.Filed.{homeIn, countIn}
+use Rattle.homes.specs.Moves.{timesInHome}
+use Rattle.index.specs.Filed.{homeIn, alternativesIn}
 use Rattle.index.specs.Mine.{mine}
 use Rattle.index.specs.Leads.{FiledOf, leads-room, leads-most, leads-held}
 
@@ -25,7 +25,7 @@ PutAsks s l n job = (length l ≡ 4352) × ((length n ≡ 34) × ((job < 32) × 
 
 abbrev pub CutAsks : ClosedSlots → List ℕ → List ℕ → ℕ → Type 0
 CutAsks s l n job =
-    (length l ≡ 4352) × ((length n ≡ 34) × ((job < 32) × (SmallMeasures s × (((h : ℕ) → h < 34 → getD n h 0 ≤ 128) × ((x : ℕ) → mine job (countIn s job) x ≡ true → 0 < holds l n (homeIn s x) x)))))
+    (length l ≡ 4352) × ((length n ≡ 34) × ((job < 32) × (SmallMeasures s × (((h : ℕ) → h < 34 → getD n h 0 ≤ 128) × ((x : ℕ) → mine job (alternativesIn s job) x ≡ true → 0 < timesInHome l n (homeIn s x) x)))))
 
 module _ (rank : ℕ → ℕ) (s : ClosedSlots) (lead : ℕ → Bool) (l n : List ℕ) (f : FiledOf rank s lead l n) (few : (j : ℕ) → lead j ≡ true → j < 32) (small : SmallMeasures s) (job : ℕ) where
   pub put-asks : job < 32 → lead job ≡ false → PutAsks s l n job

@@ -22,14 +22,14 @@ use Rattle.nodes.specs.Order.{Ordered}
 use Rattle.nodes.specs.Ranks.{two, rank}
 use Rattle.homes.specs.Orders.{over, over-lt}
 use Rattle.homes.specs.Regions.{region}
-use Rattle.homes.specs.Moves.{holds, InOrder}
+use Rattle.homes.specs.Moves.{timesInHome, HomeInOrder}
 use Rattle.entries.specs.Entries.{Waits, isLead, Led, Entries, waits-below}
-use Rattle.index.specs.Filed.{homeIn, tagIn, countIn, isNode, Filed}
+use Rattle.index.specs.Filed.{homeIn, tagIn, alternativesIn, isNode, Filed}
 use Rattle.index.specs.Keeps.{bit-some}
 use Rattle.index.specs.Index.{Index}
 
 -- nodes that rank as they ranked are in order as they were
-order-same : (rank rank′ : ℕ → ℕ) (l n : List ℕ) (h : ℕ) → ((x : ℕ) → 0 < holds l n h x → rank′ x ≡ rank x) → InOrder rank l n h → InOrder rank′ l n h
+order-same : (rank rank′ : ℕ → ℕ) (l n : List ℕ) (h : ℕ) → ((x : ℕ) → 0 < timesInHome l n h x → rank′ x ≡ rank x) → HomeInOrder rank l n h → HomeInOrder rank′ l n h
 unfolding Ordered
 order-same rank rank′ l n h e o j a b = omega (arith, o j a b, here j b, here (over h j) (omega (arith, over-lt h j a)))
   where
@@ -87,10 +87,10 @@ module _ (s s′ : ClosedSlots) (ticket ticket′ entry high low high′ low′ 
       λ k. two (u k) (v k)
 
   module _ (q : Index s ticket entry high low places lengths) where
-    filed-rank : (h x : ℕ) → h < 34 → 0 < holds places lengths h x → rank high′ low′ x ≡ rank high low x
+    filed-rank : (h x : ℕ) → h < 34 → 0 < timesInHome places lengths h x → rank high′ low′ x ≡ rank high low x
     filed-rank h x p held =
         let t : isNode s entry x ≡ true = bit-some (isNode s entry x) (eqb (homeIn s x) h) (omega (arith, q .filed .has h x p)) in
-        let w : Waits entry (x / 4) = omega (arith, eqb-true (getD entry (x / 4) 0) (x / 4 + 1) (both (isLead entry (x / 4)) (ltb (x % 4) (countIn s (x / 4))) t .0)) in
+        let w : Waits entry (x / 4) = omega (arith, eqb-true (getD entry (x / 4) 0) (x / 4 + 1) (both (isLead entry (x / 4)) (ltb (x % 4) (alternativesIn s (x / 4))) t .0)) in
         rank-kept x (omega (arith, waits-below entry 32 (x / 4) (omega (arith, q .size)) w)) (other (x / 4) w)
 
     filed-kept : Filed (rank high′ low′) (homeIn s′) (isNode s′ entry) places lengths

@@ -11,7 +11,7 @@ use Rattle.condition.specs.Closing.{ClosedSlots}
 use Rattle.condition.specs.Tags.{tagAt, tagMeans}
 use Rattle.filing.specs.Homes.{homeAt}
 use Rattle.nodes.specs.Counts.{bit}
-use Rattle.homes.specs.Moves.{holds, InOrder, Cleared}
+use Rattle.homes.specs.Moves.{timesInHome, HomeInOrder, Cleared}
 use Rattle.entries.specs.Entries.{isLead}
 
 -- ---- of the nodes of closed slots: home and tag of node x, and the number of job j's nodes
@@ -21,16 +21,16 @@ homeIn s x = homeAt (s .measure) (s .operator) (tagAt (s .atoms) (s .operator) x
 abbrev pub tagIn : ClosedSlots → ℕ → Option Atom
 tagIn s x = tagMeans (s .measure) (s .operator) (s .key) (tagAt (s .atoms) (s .operator) x)
 
-abbrev pub countIn : ClosedSlots → ℕ → ℕ
-countIn s j = min (getD (s .alternatives) j 0) 4
+abbrev pub alternativesIn : ClosedSlots → ℕ → ℕ
+alternativesIn s j = min (getD (s .alternatives) j 0) 4
 
 -- node x is an alternative of a lead
 abbrev pub isNode : ClosedSlots → List ℕ → ℕ → Bool
-isNode s entry x = isLead entry (x / 4) && ltb (x % 4) (countIn s (x / 4))
+isNode s entry x = isLead entry (x / 4) && ltb (x % 4) (alternativesIn s (x / 4))
 
 pub record Filed (rank home : ℕ → ℕ) (node : ℕ → Bool) (places lengths : List ℕ) : Type 0 where
-  pub has : (h x : ℕ) → h < 34 → holds places lengths h x ≡ bit (node x && eqb (home x) h)
-  pub order : (h : ℕ) → h < 34 → InOrder rank places lengths h
+  pub has : (h x : ℕ) → h < 34 → timesInHome places lengths h x ≡ bit (node x && eqb (home x) h)
+  pub order : (h : ℕ) → h < 34 → HomeInOrder rank places lengths h
   pub cleared : (h : ℕ) → h < 34 → Cleared places lengths h
   pub long : length places ≡ 4352
   pub many : length lengths ≡ 34

@@ -15,7 +15,7 @@ use Rattle.entries.specs.Entries.{Waits, isLead}
 use Rattle.entries.specs.Joins.{JoinedTo}
 use Rattle.entries.specs.declared.Joined.{Joined}
 use Rattle.entries.specs.declared.Joined.the-variants.{Alone, Follows, Leads}
-use Rattle.index.specs.Filed.{homeIn, countIn}
+use Rattle.index.specs.Filed.{homeIn, alternativesIn}
 use Rattle.index.specs.Nodes.{NodesPut, NodesCut}
 use Rattle.index.specs.Leads.{FiledOf, leads-more, leads-less}
 use Rattle.index.specs.Asked.{SmallMeasures, PutAsks, CutAsks, put-asks, cut-asks, fewer}
@@ -31,7 +31,7 @@ module _ (s : ClosedSlots) (ticket high low entry entry′ l n : List ℕ) (job 
   alone-asks small below = put-asks (rank high low) s (isLead entry) l n (q .filed) (lead-below entry (q .size)) small job below new
 
   module _ (apart : (k : ℕ) → Waits entry k → getD ticket k 0 ≡ getD ticket job 0 → ⊥) (own : WordsOf s ticket high low job) where
-    pub alone-index : r ≡ Alone → (m k : List ℕ) → NodesPut (rank high low) (homeIn s) job (countIn s job) l n m k → JoinedIndex s ticket high low job entry entry′ m k
+    pub alone-index : r ≡ Alone → (m k : List ℕ) → NodesPut (rank high low) (homeIn s) job (alternativesIn s job) l n m k → JoinedIndex s ticket high low job entry entry′ m k
     alone-index e m k a =
         invariant-kept-by-join s ticket high low entry entry′ l n m k job q Alone apart own (rw e at t) (leads-more (rank high low) s (isLead entry) l n (q .filed) job new m k a)
 
@@ -52,7 +52,7 @@ module _ (s : ClosedSlots) (ticket high low entry entry′ l n : List ℕ) (job 
     pub old-asks : SmallMeasures s → CutAsks s l n old
     old-asks small = cut-asks (rank high low) s (isLead entry) l n (q .filed) (lead-below entry (q .size)) small old (after .says .1)
 
-    module _ (m k : List ℕ) (a : NodesCut (rank high low) (homeIn s) old (countIn s old) l n m k) where
+    module _ (m k : List ℕ) (a : NodesCut (rank high low) (homeIn s) old (alternativesIn s old) l n m k) where
       filed-left : FiledOf (rank high low) s left m k
       filed-left = leads-less (rank high low) s (isLead entry) l n (q .filed) old (after .says .1) m k a
 
@@ -60,6 +60,6 @@ module _ (s : ClosedSlots) (ticket high low entry entry′ l n : List ℕ) (job 
       new-asks small below = put-asks (rank high low) s left m k filed-left (fewer (isLead entry) old (lead-below entry (q .size))) small job below left-out
 
       pub leads-index : ((k : ℕ) → Waits entry k → getD ticket k 0 ≡ getD ticket job 0 → ⊥) → WordsOf s ticket high low job →
-          (m′ k′ : List ℕ) → NodesPut (rank high low) (homeIn s) job (countIn s job) m k m′ k′ → JoinedIndex s ticket high low job entry entry′ m′ k′
+          (m′ k′ : List ℕ) → NodesPut (rank high low) (homeIn s) job (alternativesIn s job) m k m′ k′ → JoinedIndex s ticket high low job entry entry′ m′ k′
       leads-index apart own m′ k′ b =
           invariant-kept-by-join s ticket high low entry entry′ l n m′ k′ job q (Leads old) apart own after (leads-more (rank high low) s left m k filed-left job left-out m′ k′ b)

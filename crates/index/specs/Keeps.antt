@@ -12,9 +12,9 @@ use Rattle.rules.specs.Base.{if_then_else_}
 use Rattle.rules.specs.Laws.In.{byBool}
 use Rattle.nodes.specs.Counts.{bit}
 use Rattle.homes.specs.Regions.{region}
-use Rattle.homes.specs.Moves.{holds}
+use Rattle.homes.specs.Moves.{timesInHome}
 use Rattle.index.specs.Filed.{Filed}
-use Rattle.index.specs.Nodes.{Added, Taken}
+use Rattle.index.specs.Nodes.{Added, TakenOut}
 use Rattle.index.specs.Across.{across, placed, at-most-all, at-most-rest}
 
 bit-most : (b c : Bool) → bit (b && c) ≤ 1
@@ -48,7 +48,7 @@ module _ (rank home : ℕ → ℕ) (node : ℕ → Bool) (l n : List ℕ) (f : F
       many = a .many ∙ f .many;
     }
 
-    pub filed-taken : Taken rank home who l n m k → ((x : ℕ) → who x ≡ true → node x ≡ true) → Filed rank home (λ x. if who x then false else node x) m k
+    pub filed-taken : TakenOut rank home who l n m k → ((x : ℕ) → who x ≡ true → node x ≡ true) → Filed rank home (λ x. if who x then false else node x) m k
     filed-taken a there = record {
       has = λ h x p. byBool (who x)
           (λ t. rw t (omega (arith, a .has h x p, ap (λ b. bit (b && eqb (home x) h)) t, f .has h x p, ap (λ b. bit (b && eqb (home x) h)) (there x t))))
@@ -60,18 +60,18 @@ module _ (rank home : ℕ → ℕ) (node : ℕ → Bool) (l n : List ℕ) (f : F
     }
 
   -- a node that is filed is in its home
-  pub filed-held : (x : ℕ) → home x < 34 → node x ≡ true → 0 < holds l n (home x) x
+  pub filed-held : (x : ℕ) → home x < 34 → node x ≡ true → 0 < timesInHome l n (home x) x
   filed-held x p t = rw (f .has (home x) x p, t, eq-eqb (home x) (home x) refl) (omega arith)
 
   -- ---- how many a home has
   module _ (small : (x : ℕ) → node x ≡ true → x < 128) (h : ℕ) (p : h < 34) where
-    below : (z : ℕ) → 0 < holds l n h z → z < 128
+    below : (z : ℕ) → 0 < timesInHome l n h z → z < 128
     below z q = small z (bit-some (node z) (eqb (home z) h) (omega (arith, f .has h z p)))
 
-    once : (z : ℕ) → holds l n h z ≤ 1
+    once : (z : ℕ) → timesInHome l n h z ≤ 1
     once z = omega (arith, f .has h z p, bit-most (node z) (eqb (home z) h))
 
-    pub filed-placed : across (holds l n h) 128 ≡ getD n h 0
+    pub filed-placed : across (timesInHome l n h) 128 ≡ getD n h 0
     filed-placed = placed (region l h) (getD n h 0) below once
 
     pub filed-most : getD n h 0 ≤ 128

@@ -9,11 +9,11 @@ use lib.ListN.{getD, set, length}
 use lib.Seq.{getD-set-same, getD-set-other}
 use Rattle.rules.specs.Laws.Cases.{byEq}
 use Rattle.nodes.specs.Counts.{bit}
-use Rattle.homes.specs.Moves.{holds, Put, Cut}
+use Rattle.homes.specs.Moves.{timesInHome, Put, Cut}
 use Rattle.condition.specs.Tags.{tagAt}
 use Rattle.filing.specs.Homes.{home-at-below}
 use Rattle.index.specs.Mine.{mine, mine-none, mine-past, mine-yes, mine-more}
-use Rattle.index.specs.Nodes.{homeOf, Added, Taken, one-put, one-cut, added-both, taken-both}
+use Rattle.index.specs.Nodes.{homeOf, Added, TakenOut, one-put, one-cut, added-both, taken-both}
 
 -- where the value at a place of a list becomes v, no place has more than before but that one
 set-most : (n : List ℕ) (g v h most : ℕ) → g < length n → v ≤ most → getD n h 0 ≤ most → getD (set n g v) h 0 ≤ most
@@ -29,7 +29,7 @@ module _ (rank home : ℕ → ℕ) (job : ℕ) (l n : List ℕ) where
     many = refl;
   }
 
-  pub cut-none : Taken rank home (mine job 0) l n l n
+  pub cut-none : TakenOut rank home (mine job 0) l n l n
   cut-none = record {
     has = λ h x s. rw (mine-none job x) (omega arith);
     order = λ h s o. o;
@@ -41,7 +41,7 @@ module _ (rank home : ℕ → ℕ) (job : ℕ) (l n : List ℕ) where
   -- node and g are what the code has for the next node and its home
   module _ (m k : List ℕ) (i : ℕ) {node g : ℕ} (few : i < 4) (next : node ≡ job * 4 + i) (at : g ≡ home (job * 4 + i)) (one : g < 34) (many : length k ≡ 34) where
     -- the next node is still there
-    pub cut-held : (count : ℕ) → i < count → ((x : ℕ) → mine job count x ≡ true → 0 < holds l n (home x) x) → Taken rank home (mine job i) l n m k → 0 < holds m k g node
+    pub cut-held : (count : ℕ) → i < count → ((x : ℕ) → mine job count x ≡ true → 0 < timesInHome l n (home x) x) → TakenOut rank home (mine job i) l n m k → 0 < timesInHome m k g node
     cut-held count less held a =
         let x = job * 4 + i in
         let here : home x < 34 = omega (arith, at) in
@@ -53,7 +53,7 @@ module _ (rank home : ℕ → ℕ) (job : ℕ) (l n : List ℕ) where
           let here : home (job * 4 + i) < 34 = omega (arith, at) in
           added-both rank home (mine job i) (λ x. eqb x (job * 4 + i)) (mine job (i + 1)) (λ x t. mine-more job i x t few) l n m k p q a (one-put rank home (job * 4 + i) m k p q many here (rw (next, at) at b))
 
-      pub cut-next : Taken rank home (mine job i) l n m k → Cut rank m k p q g node → Taken rank home (mine job (i + 1)) l n p q
+      pub cut-next : TakenOut rank home (mine job i) l n m k → Cut rank m k p q g node → TakenOut rank home (mine job (i + 1)) l n p q
       cut-next a b =
           let here : home (job * 4 + i) < 34 = omega (arith, at) in
           taken-both rank home (mine job i) (λ x. eqb x (job * 4 + i)) (mine job (i + 1)) (λ x t. mine-more job i x t few) l n m k p q a (one-cut rank home (job * 4 + i) m k p q many here (rw (next, at) at b))

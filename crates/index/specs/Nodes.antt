@@ -13,7 +13,7 @@ use Rattle.condition.specs.Tags.{tagAt}
 use Rattle.filing.specs.Homes.{homeAt}
 use Rattle.nodes.specs.Counts.{bit, is, is-self, is-not}
 use Rattle.homes.specs.Regions.{region}
-use Rattle.homes.specs.Moves.{holds, InOrder, Cleared, Put, Cut}
+use Rattle.homes.specs.Moves.{timesInHome, HomeInOrder, Cleared, Put, Cut}
 use Rattle.index.specs.Mine.{mine}
 
 abbrev pub homeOf : List ℕ → List ℕ → List ℕ → ℕ → ℕ
@@ -21,16 +21,16 @@ homeOf atoms measure operator x = homeAt measure operator (tagAt atoms operator 
 
 -- the nodes that `who` names were put into their homes
 pub record Added (rank home : ℕ → ℕ) (who : ℕ → Bool) (places lengths places′ lengths′ : List ℕ) : Type 0 where
-  pub has : (h x : ℕ) → h < 34 → holds places′ lengths′ h x ≡ holds places lengths h x + bit (who x && eqb (home x) h)
-  pub order : (h : ℕ) → h < 34 → InOrder rank places lengths h → InOrder rank places′ lengths′ h
+  pub has : (h x : ℕ) → h < 34 → timesInHome places′ lengths′ h x ≡ timesInHome places lengths h x + bit (who x && eqb (home x) h)
+  pub order : (h : ℕ) → h < 34 → HomeInOrder rank places lengths h → HomeInOrder rank places′ lengths′ h
   pub cleared : (h : ℕ) → h < 34 → Cleared places lengths h → Cleared places′ lengths′ h
   pub long : length places′ ≡ length places
   pub many : length lengths′ ≡ length lengths
 
 -- and were taken out of them
-pub record Taken (rank home : ℕ → ℕ) (who : ℕ → Bool) (places lengths places′ lengths′ : List ℕ) : Type 0 where
-  pub has : (h x : ℕ) → h < 34 → holds places′ lengths′ h x + bit (who x && eqb (home x) h) ≡ holds places lengths h x
-  pub order : (h : ℕ) → h < 34 → InOrder rank places lengths h → InOrder rank places′ lengths′ h
+pub record TakenOut (rank home : ℕ → ℕ) (who : ℕ → Bool) (places lengths places′ lengths′ : List ℕ) : Type 0 where
+  pub has : (h x : ℕ) → h < 34 → timesInHome places′ lengths′ h x + bit (who x && eqb (home x) h) ≡ timesInHome places lengths h x
+  pub order : (h : ℕ) → h < 34 → HomeInOrder rank places lengths h → HomeInOrder rank places′ lengths′ h
   pub cleared : (h : ℕ) → h < 34 → Cleared places lengths h → Cleared places′ lengths′ h
   pub long : length places′ ≡ length places
   pub many : length lengths′ ≡ length lengths
@@ -39,7 +39,7 @@ abbrev pub NodesPut : (ℕ → ℕ) → (ℕ → ℕ) → ℕ → ℕ → List �
 NodesPut rank home job count places lengths places′ lengths′ = Added rank home (mine job count) places lengths places′ lengths′
 
 abbrev pub NodesCut : (ℕ → ℕ) → (ℕ → ℕ) → ℕ → ℕ → List ℕ → List ℕ → List ℕ → List ℕ → Type 0
-NodesCut rank home job count places lengths places′ lengths′ = Taken rank home (mine job count) places lengths places′ lengths′
+NodesCut rank home job count places lengths places′ lengths′ = TakenOut rank home (mine job count) places lengths places′ lengths′
 
 -- ---- one node
 -- home g has v nodes, and the other homes are as they were
@@ -68,10 +68,10 @@ module _ (rank home : ℕ → ℕ) (node : ℕ) where
       old : (h : ℕ) → (h ≡ home node → ⊥) → getD k h 0 ≡ getD n h 0
       old h d = rw (u .counted) (getD-set-other n (home node) h v 0 d)
 
-      same-holds : (h x : ℕ) → h < 34 → (h ≡ home node → ⊥) → holds m k h x ≡ holds l n h x
+      same-holds : (h x : ℕ) → h < 34 → (h ≡ home node → ⊥) → timesInHome m k h x ≡ timesInHome l n h x
       same-holds h x p d = rw (u .others h p d, old h d) refl
 
-      same-order : (h : ℕ) → h < 34 → (h ≡ home node → ⊥) → InOrder rank l n h → InOrder rank m k h
+      same-order : (h : ℕ) → h < 34 → (h ≡ home node → ⊥) → HomeInOrder rank l n h → HomeInOrder rank m k h
       same-order h p d o = rw (u .others h p d, old h d) o
 
       same-cleared : (h : ℕ) → h < 34 → (h ≡ home node → ⊥) → Cleared l n h → Cleared m k h
@@ -89,7 +89,7 @@ module _ (rank home : ℕ → ℕ) (node : ℕ) where
           many = rw (q .counted) (length-set n (home node) (getD n (home node) 0 + 1));
         }
 
-    pub one-cut : Cut rank l n m k (home node) node → Taken rank home it l n m k
+    pub one-cut : Cut rank l n m k (home node) node → TakenOut rank home it l n m k
     one-cut q =
         let u : Elsewhere l n m k (home node) (getD n (home node) 0 - 1) = record { counted = q .counted; others = q .others } in
         let clear : Cleared l n (home node) → Cleared m k (home node) =
@@ -113,7 +113,7 @@ module _ (rank home : ℕ → ℕ) (first then all : ℕ → Bool) (split : (x :
     many = b .many ∙ a .many;
   }
 
-  pub taken-both : Taken rank home first l n m k → Taken rank home then m k p q → Taken rank home all l n p q
+  pub taken-both : TakenOut rank home first l n m k → TakenOut rank home then m k p q → TakenOut rank home all l n p q
   taken-both a b = record {
     has = λ h x s. omega (arith, a .has h x s, b .has h x s, split x (eqb (home x) h));
     order = λ h s o. b .order h s (a .order h s o);

@@ -14,7 +14,7 @@ use Rattle.entries.specs.Entries.{isLead}
 use Rattle.entries.specs.Parts.{partedLead, PartedFrom}
 use Rattle.entries.specs.declared.Parted.{Parted}
 use Rattle.entries.specs.declared.Parted.the-variants.{Follower, Ends, Next}
-use Rattle.index.specs.Filed.{homeIn, countIn}
+use Rattle.index.specs.Filed.{homeIn, alternativesIn}
 use Rattle.index.specs.Nodes.{NodesPut, NodesCut}
 use Rattle.index.specs.Leads.{FiledOf, leads-same, leads-more, leads-less}
 use Rattle.index.specs.Asked.{SmallMeasures, PutAsks, CutAsks, put-asks, cut-asks, fewer}
@@ -32,7 +32,7 @@ module _ (s : ClosedSlots) (ticket high low entry entry′ l n : List ℕ) (job 
   pub ends-asks : r ≡ Ends → SmallMeasures s → CutAsks s l n job
   ends-asks e = let after : PartedFrom (conditionIn s) ticket entry entry′ job Ends = rw e at t in job-asks (after .says .0)
 
-  pub ends-index : r ≡ Ends → (m k : List ℕ) → NodesCut (rank high low) (homeIn s) job (countIn s job) l n m k → PartedIndex s ticket high low job entry entry′ m k
+  pub ends-index : r ≡ Ends → (m k : List ℕ) → NodesCut (rank high low) (homeIn s) job (alternativesIn s job) l n m k → PartedIndex s ticket high low job entry entry′ m k
   ends-index e m k a =
       let after : PartedFrom (conditionIn s) ticket entry entry′ job Ends = rw e at t in
       invariant-kept-by-part s ticket high low entry entry′ l n m k job q Ends after (leads-less (rank high low) s (isLead entry) l n (q .filed) job (after .says .0) m k a)
@@ -51,14 +51,14 @@ module _ (s : ClosedSlots) (ticket high low entry entry′ l n : List ℕ) (job 
     pub lead-asks : SmallMeasures s → CutAsks s l n job
     lead-asks = job-asks (after .says .0)
 
-    module _ (m k : List ℕ) (a : NodesCut (rank high low) (homeIn s) job (countIn s job) l n m k) where
+    module _ (m k : List ℕ) (a : NodesCut (rank high low) (homeIn s) job (alternativesIn s job) l n m k) where
       filed-left : FiledOf (rank high low) s left m k
       filed-left = leads-less (rank high low) s (isLead entry) l n (q .filed) job (after .says .0) m k a
 
       pub next-asks : SmallMeasures s → PutAsks s m k next
       next-asks small = put-asks (rank high low) s left m k filed-left (fewer (isLead entry) job (lead-below entry (q .size))) small next (after .says .1) left-out
 
-      pub next-index : (m′ k′ : List ℕ) → NodesPut (rank high low) (homeIn s) next (countIn s next) m k m′ k′ → PartedIndex s ticket high low job entry entry′ m′ k′
+      pub next-index : (m′ k′ : List ℕ) → NodesPut (rank high low) (homeIn s) next (alternativesIn s next) m k m′ k′ → PartedIndex s ticket high low job entry entry′ m′ k′
       next-index m′ k′ b = invariant-kept-by-part s ticket high low entry entry′ l n m′ k′ job q (Next next) after
           (leads-same (rank high low) s (λ j. if eqb j next then true else left j) m′ k′ (leads-more (rank high low) s left m k filed-left next left-out m′ k′ b) (partedLead (Next next) entry job) same)
         where

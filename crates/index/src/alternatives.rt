@@ -4,7 +4,7 @@ ghost use mathlib.Core.Bool.{true};
 ghost use Prim.Native.Nat.{ℕ, _<_, _≤_, min};
 ghost use lib.ListN.{getD, length};
 ghost use Rattle.nodes.specs.Ranks.{rank};
-ghost use Rattle.homes.specs.Moves.{holds};
+ghost use Rattle.homes.specs.Moves.{timesInHome};
 ghost use Rattle.index.specs.Mine.{mine};
 ghost use Rattle.index.specs.Nodes.{homeOf, NodesPut, NodesCut};
 use condition::truth::count_of;
@@ -60,7 +60,7 @@ pub fn cut_nodes(
 )
     requires { ⌜ length (now places) ≡ 4352 ⌝ ∗ ⌜ length (now lengths) ≡ 34 ⌝ ∗ ⌜ job < 32 ⌝ ∗ ⌜ ((k : ℕ) → getD (now measure) k 0 < 16) ⌝ }
     requires { ⌜ ((h : ℕ) → h < 34 → getD (now lengths) h 0 ≤ 128) ⌝ }
-    requires { ⌜ ((x : ℕ) → mine job (min (getD (now alternatives) job 0) 4) x ≡ true → 0 < holds (now places) (now lengths) (homeOf (now atoms) (now measure) (now operator) x) x) ⌝ }
+    requires { ⌜ ((x : ℕ) → mine job (min (getD (now alternatives) job 0) 4) x ≡ true → 0 < timesInHome (now places) (now lengths) (homeOf (now atoms) (now measure) (now operator) x) x) ⌝ }
     ensures { λ _. ⌜ NodesCut (rank (now (high .entry)) (now (low .entry))) (homeOf (now (atoms .entry)) (now (measure .entry)) (now (operator .entry))) job (min (getD (now (alternatives .entry)) job 0) 4)
         (now (places .entry)) (now (lengths .entry)) (now (places .exit)) (now (lengths .exit)) ⌝ }
 {

@@ -17,7 +17,7 @@ use Rattle.rules.specs.Room.{Room}
 use Rattle.rules.specs.Record.{opening}
 use Rattle.rules.specs.Step.{Outcome, done, enters, waits, on, back, Report, accepted, refusal, nothing}
 use Rattle.rules.specs.Tally.{take}
-use Rattle.rules.specs.Listing.{text, decimal, line, lines, reported, run, listing, _␣_, job, word}
+use Rattle.rules.specs.Listing.{text, decimal, line, lines, reported, run, listing, _␣_, job, outcomeWord}
 use Rattle.rules.specs.Laws.In.{byBool}
 use Rattle.rules.specs.Laws.Readers.{Took}
 use Rattle.rules.specs.Laws.WellFormed.{sound-opening}
@@ -48,7 +48,7 @@ five-digits : (n : ℕ) → n < 100000 → length (decimal n) ≤ 5
 five-digits = digit-more 4 10000 (omega arith) (digit-more 3 1000 (omega arith) three-digits)
 
 -- ---- lines
-word-short : (o : Outcome) → length (word o) ≤ 5
+word-short : (o : Outcome) → length (outcomeWord o) ≤ 5
 word-short done = omega arith
 word-short enters = omega arith
 word-short waits = omega arith
@@ -81,7 +81,7 @@ module _ (n before : ℕ) (r q : Room) (bytes rest : List ℕ) (next : ℕ → �
   reported-short h b f (accepted o j count) s a =
       let l = two-less a in
       let g = f (suc n) (suc before) q l (omega arith) (omega arith) (inr refl) in
-      omega (arith, accepted-length (decimal n) (word o) (job j) (decimal count) (next (suc n) (suc before) q rest), five-digits n (omega arith), word-short o, job-short j (s .0), three-digits count (omega (arith, s .1)))
+      omega (arith, accepted-length (decimal n) (outcomeWord o) (job j) (decimal count) (next (suc n) (suc before) q rest), five-digits n (omega arith), word-short o, job-short j (s .0), three-digits count (omega (arith, s .1)))
   reported-short h b f nothing s a = omega (arith, end-short before (omega arith))
   reported-short h b f (refusal k) s a = byBool (leb k 4) (λ t. rw t last) (λ u. rw u (goes u (a .1)))
     where

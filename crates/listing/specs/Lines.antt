@@ -4,14 +4,14 @@ use mathlib.Core.List.{List, [], _∷_, _++_, append-assoc}
 use mathlib.Core.Option.{Option}
 use Prim.Native.Nat.{ℕ, _<_, _≤_}
 use borrow.Author.Tests.{lt-ltb, le-ltb, ne-eqb}
-use Rattle.rules.specs.Listing.{text, decimal, line, word, _␣_}
+use Rattle.rules.specs.Listing.{text, decimal, line, outcomeWord, _␣_}
 use Rattle.rules.specs.Listing as rules
 use Rattle.rules.specs.Step.{Outcome}
 use Rattle.room.specs.Reports.{outcomeOf, jobIn}
 use Rattle.listing.specs.Output.{Output, Writes, writes, _then_}
 
 abbrev pub acceptedLine : ℕ → Outcome → Option ℕ → ℕ → List ℕ
-acceptedLine n o j count = line (decimal n ␣ word o ␣ rules.job j ␣ decimal count) []
+acceptedLine n o j count = line (decimal n ␣ outcomeWord o ␣ rules.job j ␣ decimal count) []
 
 abbrev pub refusedLine : ℕ → ℕ → List ℕ
 refusedLine n k = line (decimal n ␣ text "refused" ␣ decimal k) []
@@ -20,7 +20,7 @@ abbrev pub endLine : ℕ → List ℕ
 endLine before = line (text "end" ␣ decimal before) []
 
 abbrev pub outcomeText : Outcome → List ℕ
-outcomeText o = 32 ∷ (word o ++ (32 ∷ []))
+outcomeText o = 32 ∷ (outcomeWord o ++ (32 ∷ []))
 
 abbrev pub jobText : Option ℕ → List ℕ
 jobText = rules.job
@@ -64,7 +64,7 @@ four-fields a b c d = simp append-assoc
 
 pub writes-accepted : {o p q r s : Output} (n : ℕ) (w : Outcome) (j : Option ℕ) (count : ℕ) → Writes o p (decimal n) → Writes p q (outcomeText w) → Writes q r (jobText j) → Writes r s (line ((32 ∷ []) ++ decimal count) []) →
     Writes o s (acceptedLine n w j count)
-writes-accepted n w j count a b c d = writes (four-fields (decimal n) (word w) (jobText j) (decimal count)) (a then b then c then d)
+writes-accepted n w j count a b c d = writes (four-fields (decimal n) (outcomeWord w) (jobText j) (decimal count)) (a then b then c then d)
 
 pub writes-refused : {o p q : Output} (n k : ℕ) → Writes o p (decimal n) → Writes p q (line (text " refused " ++ decimal k) []) → Writes o q (refusedLine n k)
 writes-refused n k a b = writes (sym (append-assoc (decimal n) (text " refused " ++ decimal k) (10 ∷ []))) (a then b)

@@ -15,21 +15,21 @@ use Rattle.listing.specs.Lines.{acceptedLine, refusedLine, endLine}
 use Rattle.listing.specs.Turns.{linesFrom, accepted-turn, accepted-shorter, last-turn, refused-turn, refused-shorter, no-turn}
 
 -- o is the output where the run began, and `whole` what it will have written there at its end; p is the output now
-pub record Run (o : Output) (whole : List ℕ) (p : Output) (bytes : List ℕ) (place n before : ℕ) (a : Arrays) : Type 0 where
+pub record Running (o : Output) (whole : List ℕ) (p : Output) (bytes : List ℕ) (place n before : ℕ) (a : Arrays) : Type 0 where
   pub kept : Kept a
   pub leads : (q : Output) → Writes p q (linesFrom bytes place n before a) → Writes o q whole
   -- each event took a byte, so the numbers stay small
   pub counted : n + length (drop place bytes) ≤ length bytes + 1
   pub fewer : before < n
 
-pub run-starts : (o : Output) (bytes : List ℕ) (place : ℕ) {a : Arrays} → Kept a → Run o (linesFrom bytes place 1 0 a) o bytes place 1 0 a
+pub run-starts : (o : Output) (bytes : List ℕ) (place : ℕ) {a : Arrays} → Kept a → Running o (linesFrom bytes place 1 0 a) o bytes place 1 0 a
 run-starts o bytes place k = record { kept = k; leads = λ q w. w; counted = omega (arith, length-drop place bytes); fewer = omega arith }
 
-module _ {o : Output} {whole : List ℕ} {p : Output} {bytes : List ℕ} {place n before : ℕ} {a b : Arrays} {w : Taken} (r : Run o whole p bytes place n before a) (t : Takes a b bytes place w) where
+module _ {o : Output} {whole : List ℕ} {p : Output} {bytes : List ℕ} {place n before : ℕ} {a b : Arrays} {w : Taken} (r : Running o whole p bytes place n before a) (t : Takes a b bytes place w) where
   pub accepted-less : {outcome job count next : ℕ} → w ≡ Accepted outcome job count next → length (drop next bytes) < length (drop place bytes)
   accepted-less e = accepted-shorter a bytes place n before (subst (Takes a b bytes place) e t)
 
-  pub run-accepts : {outcome job count next : ℕ} {q : Output} → w ≡ Accepted outcome job count next → Writes p q (acceptedLine n (outcomeOf outcome) (jobIn job) count) → Run o whole q bytes next (n + 1) (before + 1) b
+  pub run-accepts : {outcome job count next : ℕ} {q : Output} → w ≡ Accepted outcome job count next → Writes p q (acceptedLine n (outcomeOf outcome) (jobIn job) count) → Running o whole q bytes next (n + 1) (before + 1) b
   run-accepts e v = record {
     kept = t .kept;
     leads = λ u z. r .leads u (writes (sym (accepted-turn a bytes place n before (subst (Takes a b bytes place) e t))) (v then z));
@@ -40,7 +40,7 @@ module _ {o : Output} {whole : List ℕ} {p : Output} {bytes : List ℕ} {place 
   pub refused-less : {k next : ℕ} → w ≡ Refused k next → 4 < k → length (drop next bytes) < length (drop place bytes)
   refused-less e h = refused-shorter a bytes place n before (subst (Takes a b bytes place) e t) h
 
-  pub run-refuses : {k next : ℕ} {q : Output} → w ≡ Refused k next → 4 < k → Writes p q (refusedLine n k) → Run o whole q bytes next (n + 1) before b
+  pub run-refuses : {k next : ℕ} {q : Output} → w ≡ Refused k next → 4 < k → Writes p q (refusedLine n k) → Running o whole q bytes next (n + 1) before b
   run-refuses e h v = record {
     kept = t .kept;
     leads = λ u z. r .leads u (writes (sym (refused-turn a bytes place n before (subst (Takes a b bytes place) e t) h)) (v then z));

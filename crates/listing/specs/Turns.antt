@@ -11,7 +11,7 @@ use borrow.Author.Tests.{le-leb, lt-leb}
 use Rattle.rules.specs.Room.{Room}
 use Rattle.rules.specs.Step.{Report}
 use Rattle.rules.specs.Tally as tally
-use Rattle.rules.specs.Listing.{lines, reported, line, text, decimal, _␣_, job, word}
+use Rattle.rules.specs.Listing.{lines, reported, line, text, decimal, _␣_, job, outcomeWord}
 use Rattle.rules.specs.Laws.Readers.{Took}
 use Rattle.rules.specs.Demands.Answers.{Answers, every-event-is-answered}
 use Rattle.rules.specs.Demands.Listings.{lines-enough}
@@ -56,7 +56,7 @@ module _ (a : Arrays) (bytes : List ℕ) (place n before : ℕ) where
     pub accepted-turn : {outcome job count next : ℕ} → Takes a b bytes place (Accepted outcome job count next) →
         linesFrom bytes place n before a ≡ acceptedLine n (outcomeOf outcome) (jobIn job) count ++ linesFrom bytes next (n + 1) (before + 1) b
     accepted-turn {outcome} {job = j} {count} {next} t =
-        let l = decimal n ␣ word (outcomeOf outcome) ␣ job (jobIn j) ␣ decimal count in
+        let l = decimal n ␣ outcomeWord (outcomeOf outcome) ␣ job (jobIn j) ␣ decimal count in
         ap reports (sym (t .report)) ∙ ap (line l) (onward (suc n) (suc before) next (taken .result .room) (sym (t .rest .0)) (shorter (answered (t .report)))) ∙
         (λ i. line l (lines (suc (length (drop next bytes))) (sym (add-one n) i) (sym (add-one before) i) (sym (t .room) i) (drop next bytes))) ∙
         line-after l (linesFrom bytes next (n + 1) (before + 1) b)

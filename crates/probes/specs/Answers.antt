@@ -9,19 +9,19 @@ use Rattle.fields.specs.declared.field.Signed.the-variants as signed
 use Rattle.probes.specs.declared.answers.Answer.{Answer}
 use Rattle.probes.specs.declared.answers.SignedAnswer.{SignedAnswer}
 
-abbrev pub plain : Number → Answer
-plain (number.Got n next) = record { refusal = 0; value = n; next = next }
-plain (number.Refused k) = record { refusal = k; value = 0; next = 0 }
+abbrev pub plainAnswer : Number → Answer
+plainAnswer (number.Got n next) = record { refusal = 0; value = n; next = next }
+plainAnswer (number.Refused k) = record { refusal = k; value = 0; next = 0 }
 
 abbrev pub plainSigned : Signed → SignedAnswer
 plainSigned (signed.Got z next) = record { refusal = 0; value = z; next = next }
 plainSigned (signed.Refused k) = record { refusal = k; value = pos 0; next = 0 }
 
 -- as the code has it: the answer was found to be of this case
-pub plain-got : {a : Number} {n next : ℕ} → a ≡ number.Got n next → record { refusal = 0; value = n; next = next } ≡ plain a
+pub plain-got : {a : Number} {n next : ℕ} → a ≡ number.Got n next → record { refusal = 0; value = n; next = next } ≡ plainAnswer a
 plain-got e = rw e
 
-pub plain-refused : {a : Number} {k : ℕ} → a ≡ number.Refused k → record { refusal = k; value = 0; next = 0 } ≡ plain a
+pub plain-refused : {a : Number} {k : ℕ} → a ≡ number.Refused k → record { refusal = k; value = 0; next = 0 } ≡ plainAnswer a
 plain-refused e = rw e
 
 pub plain-signed-got : {a : Signed} {z : ℤ} {next : ℕ} → a ≡ signed.Got z next → record { refusal = 0; value = z; next = next } ≡ plainSigned a

@@ -1,6 +1,6 @@
 // The readers' answers as plain numbers, since an exported signature may not hold an enum.
 ghost use mathlib.Core.Path.{_≡_};
-ghost use Rattle.probes.specs.Answers.{plain, plainSigned};
+ghost use Rattle.probes.specs.Answers.{plainAnswer, plainSigned};
 use fields::field::Signed;
 use fields::number::Number;
 
@@ -21,7 +21,7 @@ pub struct SignedAnswer {
 }
 
 pub fn plain_of(answer: Number) -> Answer
-    ensures { λ r. ⌜ r ≡ plain answer ⌝ }
+    ensures { λ r. ⌜ r ≡ plainAnswer answer ⌝ }
 {
     match answer {
         Number::Got(n, next) => Answer {

@@ -3,7 +3,7 @@ ghost use mathlib.Core.Path.{_≡_};
 ghost use lib.ListN.{drop};
 ghost use Rattle.wire.specs.Heads.{headAt};
 ghost use Rattle.wire.specs.Waits.{atomSlots, waitSlots, numbers, asWait, localsOf, slotsOf};
-ghost use Rattle.probes.specs.Answers.{plain};
+ghost use Rattle.probes.specs.Answers.{plainAnswer};
 ghost use Rattle.probes.specs.Heads.{plainHead};
 use crate::answers::Answer;
 use crate::answers::plain_of;
@@ -106,7 +106,7 @@ pub extern "C" fn probe_wait(
     at: usize,
     measures: u8,
 ) -> Answer
-    ensures { λ r. ⌜ (r ≡ plain (asWait (now (bytes .entry)) (numbers measures (drop at (now (bytes .entry))))))
+    ensures { λ r. ⌜ (r ≡ plainAnswer (asWait (now (bytes .entry)) (numbers measures (drop at (now (bytes .entry))))))
         × (now (locals .exit) ≡ localsOf (numbers measures (drop at (now (bytes .entry)))))
         × (waitSlots (now (counts .exit)) (atomSlots (now (measure .exit)) (now (operator .exit)) (now (coefficients .exit)) (now (constant .exit)))
         ≡ slotsOf (numbers measures (drop at (now (bytes .entry))))) ⌝ }

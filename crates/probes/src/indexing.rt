@@ -15,7 +15,7 @@ ghost use Rattle.index.specs.Index.{Index};
 ghost use Rattle.index.specs.Changes.{WordsOf, JoinedIndex, PartedIndex};
 ghost use Rattle.search.specs.Pairs.{waitersIn};
 ghost use Rattle.search.specs.Indexed.{Indexed};
-ghost use Rattle.search.specs.Answers.{searched};
+ghost use Rattle.search.specs.Answers.{searchAnswer};
 ghost use Rattle.probes.specs.Searches.{plainSearch};
 use filing::write_words;
 use index::join;
@@ -157,7 +157,7 @@ pub extern "C" fn probe_search(
 ) -> Searched
     requires { ⌜ Ranges (now coefficients) (now values) (now key) ⌝ ∗ ⌜ Indexed measures (now atoms) (now measure) (now operator) (now key) (now high) (now low) (now places) (now lengths) ⌝ }
     ensures { λ r. ⌜ ((i : Indexed measures (now (atoms .entry)) (now (measure .entry)) (now (operator .entry)) (now (key .entry)) (now (high .entry)) (now (low .entry)) (now (places .entry)) (now (lengths .entry))) →
-        r ≡ plainSearch (searched (nowAt (now (coefficients .entry)) (now (values .entry))) (waitersIn (closedSlots (i .alternatives) (now (atoms .entry)) (now (measure .entry)) (now (operator .entry)) (now (key .entry))) (i .ticket) (i .entry)))) ⌝ }
+        r ≡ plainSearch (searchAnswer (nowAt (now (coefficients .entry)) (now (values .entry))) (waitersIn (closedSlots (i .alternatives) (now (atoms .entry)) (now (measure .entry)) (now (operator .entry)) (now (key .entry))) (i .ticket) (i .entry)))) ⌝ }
 {
     let answer = search(
         places,

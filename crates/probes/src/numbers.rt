@@ -3,7 +3,7 @@ ghost use mathlib.Core.Path.{_≡_};
 ghost use lib.ListN.{drop};
 ghost use Rattle.rules.specs.Number.{number, field, below, signed, signedField};
 ghost use Rattle.fields.specs.Answers.{asNumber, asSigned};
-ghost use Rattle.probes.specs.Answers.{plain, plainSigned};
+ghost use Rattle.probes.specs.Answers.{plainAnswer, plainSigned};
 use crate::answers::Answer;
 use crate::answers::SignedAnswer;
 use crate::answers::plain_of;
@@ -16,7 +16,7 @@ use integers::signed_of;
 
 #[no_mangle]
 pub extern "C" fn probe_number(bytes: &[u8], at: usize) -> Answer
-    ensures { λ r. ⌜ r ≡ plain (asNumber (now (bytes .entry)) (number (drop at (now (bytes .entry))))) ⌝ }
+    ensures { λ r. ⌜ r ≡ plainAnswer (asNumber (now (bytes .entry)) (number (drop at (now (bytes .entry))))) ⌝ }
 {
     let answer = read_number(bytes, at);
     plain_of(answer)
@@ -24,7 +24,7 @@ pub extern "C" fn probe_number(bytes: &[u8], at: usize) -> Answer
 
 #[no_mangle]
 pub extern "C" fn probe_field(bytes: &[u8], at: usize, refusal: u8, low: u64, high: u64) -> Answer
-    ensures { λ r. ⌜ r ≡ plain (asNumber (now (bytes .entry)) (field refusal low high (drop at (now (bytes .entry))))) ⌝ }
+    ensures { λ r. ⌜ r ≡ plainAnswer (asNumber (now (bytes .entry)) (field refusal low high (drop at (now (bytes .entry))))) ⌝ }
 {
     let answer = read_field(bytes, at, refusal, low, high);
     plain_of(answer)
@@ -32,7 +32,7 @@ pub extern "C" fn probe_field(bytes: &[u8], at: usize, refusal: u8, low: u64, hi
 
 #[no_mangle]
 pub extern "C" fn probe_below(bytes: &[u8], at: usize, bound: u64) -> Answer
-    ensures { λ r. ⌜ r ≡ plain (asNumber (now (bytes .entry)) (below bound (drop at (now (bytes .entry))))) ⌝ }
+    ensures { λ r. ⌜ r ≡ plainAnswer (asNumber (now (bytes .entry)) (below bound (drop at (now (bytes .entry))))) ⌝ }
 {
     let answer = read_below(bytes, at, bound);
     plain_of(answer)

@@ -18,7 +18,7 @@ use Rattle.rules.specs.Demands.Calls.{found-true}
 use Rattle.condition.specs.Closing.{ClosedSlots}
 use Rattle.index.specs.Changes.{WordsOf, PartedIndex}
 use Rattle.search.specs.Pairs.{waiterAt, waitersIn, in-waiters}
-use Rattle.search.specs.Answers.{answer, searched}
+use Rattle.search.specs.Answers.{answerFor, searchAnswer}
 use Rattle.search.specs.declared.Answer.{Answer}
 use Rattle.search.specs.declared.Answer.the-variants.{Calls, Nobody}
 use Rattle.search.specs.Indexed.{Indexed}
@@ -36,7 +36,7 @@ moved a standing entry places lengths = arrays (a .coefficients) (a .values) sta
 
 -- a search that answered r made these of them
 pub record CallsNext (a : Arrays) (now : List ℤ) (standing entry places lengths : List ℕ) (r : Answer) : Type 0 where
-  pub answer-is : r ≡ searched now (waitersIn (a .slots) (a .ticket) (a .entry))
+  pub answer-is : r ≡ searchAnswer now (waitersIn (a .slots) (a .ticket) (a .entry))
   pub standing-is : standing ≡ calledStanding r (a .standing)
   pub sound : Sound (moved a standing entry places lengths)
 
@@ -56,10 +56,10 @@ module _ (s : ClosedSlots) (ticket entry : List ℕ) (now : List ℤ) where
   calls-not-nobody : {j n m : ℕ} → Calls j n ≡ Nobody m → ⊥
   calls-not-nobody e = let z : _≡_ {A = ℕ} 0 1 = cc in omega arith
 
-  pub found-one : (job count : ℕ) → Calls job count ≡ searched now ws → FoundOne job count
+  pub found-one : (job count : ℕ) → Calls job count ≡ searchAnswer now ws → FoundOne job count
   found-one job count e = go (found now ws) refl e
     where
-      go : (f : Option Pair) → found now ws ≡ f → Calls job count ≡ answer f (evaluated now ws) → FoundOne job count
+      go : (f : Option Pair) → found now ws ≡ f → Calls job count ≡ answerFor f (evaluated now ws) → FoundOne job count
       go none d q = absurd (calls-not-nobody q)
       go (some p) d q =
           let w = in-waiters s ticket entry (p .waiter) (pair-of ws p (found-true now ws p d .0) .0) in
@@ -80,7 +80,7 @@ indexed a k = record { alternatives = a .slots .alternatives; ticket = a .ticket
 
 -- ---- the arrays after it
 module _ (a : Arrays) (k : Sound a) where
-  pub calls-nobody : (now : List ℤ) {r : Answer} (count : ℕ) → r ≡ Nobody count → r ≡ searched now (waitersIn (a .slots) (a .ticket) (a .entry)) →
+  pub calls-nobody : (now : List ℤ) {r : Answer} (count : ℕ) → r ≡ Nobody count → r ≡ searchAnswer now (waitersIn (a .slots) (a .ticket) (a .entry)) →
       CallsNext a now (a .standing) (a .entry) (a .places) (a .lengths) r
   calls-nobody now count e d = record {
     answer-is = d;
@@ -100,7 +100,7 @@ module _ (a : Arrays) (k : Sound a) where
     };
   }
 
-  module _ (now : List ℤ) (job count : ℕ) (e : Calls job count ≡ searched now (waitersIn (a .slots) (a .ticket) (a .entry))) where
+  module _ (now : List ℤ) (job count : ℕ) (e : Calls job count ≡ searchAnswer now (waitersIn (a .slots) (a .ticket) (a .entry))) where
     pub called-small : job < 32
     called-small = found-one (a .slots) (a .ticket) (a .entry) now job count e .small
 

@@ -14,7 +14,7 @@ use Rattle.rules.specs.Step.{Outcome, done, enters, waits, on, back, accepted, 
 use Rattle.rules.specs.Step as rules
 use Rattle.condition.specs.Closing.{ClosedSlots}
 use Rattle.search.specs.Pairs.{waitersIn}
-use Rattle.search.specs.Answers.{answer, searched}
+use Rattle.search.specs.Answers.{answerFor, searchAnswer}
 use Rattle.search.specs.declared.Answer.{Answer}
 use Rattle.search.specs.declared.Answer.the-variants.{Calls, Nobody}
 use Rattle.room.specs.Calls.{found-one}
@@ -92,7 +92,7 @@ pub search-not : (outcome : ℕ) (r : Answer) {k : ℕ} → searchReport outcome
 search-not outcome (Calls job count) e = accepted-not e
 search-not outcome (Nobody count) e = accepted-not e
 
--- ---- the answers of `searched`
+-- ---- the answers of `searchAnswer`
 pub report-calls : (outcome : ℕ) {a : Answer} {job count : ℕ} → a ≡ Calls job count → Accepted outcome job count ≡ searchReport outcome a
 report-calls outcome e = ap (searchReport outcome) (sym e)
 
@@ -104,17 +104,17 @@ module _ (s : ClosedSlots) (ticket entry : List ℕ) (now : List ℤ) (outcome :
   abbrev ws : List Waiter
   ws = waitersIn s ticket entry
 
-  pub report-plain : outcome ≤ 4 → (r : Answer) → r ≡ searched now ws → Plain (searchReport outcome r)
+  pub report-plain : outcome ≤ 4 → (r : Answer) → r ≡ searchAnswer now ws → Plain (searchReport outcome r)
   report-plain h (Calls job count) e = (h, omega (arith, found-one s ticket entry now job count e .small))
   report-plain h (Nobody count) e = (h, omega arith)
 
-  pub report-means : (r : Answer) → r ≡ searched now ws → meaning (searchReport outcome r) ≡ accepted (outcomeOf outcome) (jobOf (found now ws)) (evaluated now ws)
+  pub report-means : (r : Answer) → r ≡ searchAnswer now ws → meaning (searchReport outcome r) ≡ accepted (outcomeOf outcome) (jobOf (found now ws)) (evaluated now ws)
   report-means (Calls job count) e =
       let f = found-one s ticket entry now job count e in
       rw (lt-ltb job 32 (f .small))
       ((λ i. accepted (outcomeOf outcome) (some (sym (f .waiter-is) i .job)) (f .count-is i)) ∙ ap (λ g. accepted (outcomeOf outcome) (jobOf g) (evaluated now ws)) (sym (f .found-is)))
   report-means (Nobody count) e = go (found now ws) refl e
     where
-      go : (g : Option Pair) → found now ws ≡ g → Nobody count ≡ answer g (evaluated now ws) → accepted (outcomeOf outcome) none count ≡ accepted (outcomeOf outcome) (jobOf (found now ws)) (evaluated now ws)
+      go : (g : Option Pair) → found now ws ≡ g → Nobody count ≡ answerFor g (evaluated now ws) → accepted (outcomeOf outcome) none count ≡ accepted (outcomeOf outcome) (jobOf (found now ws)) (evaluated now ws)
       go none h q = let c : count ≡ evaluated now ws = cc in (λ i. accepted (outcomeOf outcome) (jobOf (sym h i)) (c i))
       go (some p) h q = let z : _≡_ {A = ℕ} 0 1 = cc in absurd (omega arith)

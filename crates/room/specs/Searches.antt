@@ -19,7 +19,7 @@ use Rattle.condition.specs.Measures.{nowAt}
 use Rattle.given.specs.Nows.{now-same}
 use Rattle.given.specs.Same.{condition-same, found-same, evaluated-same}
 use Rattle.search.specs.Pairs.{waitersIn}
-use Rattle.search.specs.Answers.{searched}
+use Rattle.search.specs.Answers.{searchAnswer}
 use Rattle.search.specs.declared.Answer.{Answer}
 use Rattle.search.specs.declared.Answer.the-variants.{Calls, Nobody}
 use Rattle.room.specs.Arrays.{Arrays, roomOf}
@@ -67,7 +67,7 @@ module _ (a : Arrays) (k : Sound a) where
     pub search-others : (job : ℕ) → eqb (getD (a .standing) job 0) 3 ≡ false → getD standing job 0 ≡ getD (a .standing) job 0
     search-others job o = go r (n .answer-is) (n .standing-is)
       where
-        go : (u : Answer) → u ≡ searched nowIn (waitersIn (a .slots) (a .ticket) (a .entry)) → standing ≡ calledStanding u (a .standing) → getD standing job 0 ≡ getD (a .standing) job 0
+        go : (u : Answer) → u ≡ searchAnswer nowIn (waitersIn (a .slots) (a .ticket) (a .entry)) → standing ≡ calledStanding u (a .standing) → getD standing job 0 ≡ getD (a .standing) job 0
         go (Nobody count) e d = ap (λ l. getD l job 0) d
         go (Calls j count) e d =
             ap (λ l. getD l job 0) d
@@ -77,7 +77,7 @@ module _ (a : Arrays) (k : Sound a) where
     pub search-held : (job : ℕ) → 3 ≤ getD standing job 0 → 3 ≤ getD (a .standing) job 0
     search-held job h = go r (n .answer-is) (n .standing-is)
       where
-        go : (u : Answer) → u ≡ searched nowIn (waitersIn (a .slots) (a .ticket) (a .entry)) → standing ≡ calledStanding u (a .standing) → 3 ≤ getD (a .standing) job 0
+        go : (u : Answer) → u ≡ searchAnswer nowIn (waitersIn (a .slots) (a .ticket) (a .entry)) → standing ≡ calledStanding u (a .standing) → 3 ≤ getD (a .standing) job 0
         go (Nobody count) e d = omega (arith, h, ap (λ l. getD l job 0) d)
         go (Calls j count) e d = byEq job j
             (λ s. omega (arith, eqb-true (getD (a .standing) j 0) 3 (sym (k .waits j) ∙ lt-ltb 0 (getD (a .entry) j 0) (called-waits a k nowIn j count e)), ap (λ x. getD (a .standing) x 0) s))

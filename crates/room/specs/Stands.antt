@@ -15,7 +15,7 @@ use Rattle.rules.specs.Search.{Waiter, Pair, found, evaluated}
 use Rattle.rules.specs.Step.{call}
 use Rattle.condition.specs.Closes.{conditionIn}
 use Rattle.search.specs.Pairs.{waitersIn}
-use Rattle.search.specs.Answers.{answer, searched}
+use Rattle.search.specs.Answers.{answerFor, searchAnswer}
 use Rattle.search.specs.declared.Answer.{Answer}
 use Rattle.search.specs.declared.Answer.the-variants.{Calls, Nobody}
 use Rattle.room.specs.Arrays.{Arrays, standingOf, roomOf}
@@ -69,7 +69,7 @@ module _ (a : Arrays) (now : List ℤ) (standing entry places lengths : List ℕ
   abbrev ws : List Waiter
   ws = waitersIn (a .slots) (a .ticket) (a .entry)
 
-  called-room : (u : Answer) → u ≡ searched now ws → standing ≡ calledStanding u (a .standing) → roomOf (moved a standing entry places lengths) ≡ call (found now ws) (roomOf a)
+  called-room : (u : Answer) → u ≡ searchAnswer now ws → standing ≡ calledStanding u (a .standing) → roomOf (moved a standing entry places lengths) ≡ call (found now ws) (roomOf a)
   called-room (Calls job count) e d =
       let f = found-one (a .slots) (a .ticket) (a .entry) now job count e in
       ap (λ l. roomOf (moved a l entry places lengths)) d
@@ -80,7 +80,7 @@ module _ (a : Arrays) (now : List ℤ) (standing entry places lengths : List ℕ
   called-room (Nobody count) e d =
       ap (λ l. roomOf (moved a l entry places lengths)) d ∙ go (found now ws) refl e
     where
-      go : (g : Option Pair) → found now ws ≡ g → Nobody count ≡ answer g (evaluated now ws) → roomOf (moved a (a .standing) entry places lengths) ≡ call (found now ws) (roomOf a)
+      go : (g : Option Pair) → found now ws ≡ g → Nobody count ≡ answerFor g (evaluated now ws) → roomOf (moved a (a .standing) entry places lengths) ≡ call (found now ws) (roomOf a)
       go none h q = ap (λ g. call g (roomOf a)) (sym h)
       go (some p) h q = let z : _≡_ {A = ℕ} 0 1 = cc in absurd (omega arith)
 

@@ -8,7 +8,7 @@ use lib.Seq.{getD-set-other}
 use Rattle.rules.specs.Laws.Cases.{byEq}
 use Rattle.nodes.specs.Counts.{is, count-more}
 use Rattle.nodes.specs.Order.{Ordered, Hole, Kids, hole-at, hole-down}
-use Rattle.nodes.specs.Holes.{value, Moved, moved-more}
+use Rattle.nodes.specs.Holes.{rankAt, Moved, moved-more}
 use Rattle.nodes.specs.Rises.{Removed}
 use Rattle.rows.specs.Places.{previous, previous-lt}
 
@@ -24,8 +24,8 @@ module _ (rank : ℕ → ℕ) (l m : List ℕ) (n k i : ℕ) (f : n < length l) 
   unfolding Kids
   slide-more p =
       moved-more rank (Gap n) l m (n + 1) k i (i + 1) (omega arith) r (omega arith) (omega arith)
-      (λ w a q. hole-down previous previous-lt (value rank m) w (n + 1) i (a .else) q (i + 1) (omega arith) (omega arith) (omega arith)
-      (λ j g h e. omega (arith, ap (value rank m) (same j g e))) (a .new))
+      (λ w a q. hole-down previous previous-lt (rankAt rank m) w (n + 1) i (a .else) q (i + 1) (omega arith) (omega arith) (omega arith)
+      (λ j g h e. omega (arith, ap (rankAt rank m) (same j g e))) (a .new))
     where
       same : (j : ℕ) → 0 < j → previous j ≡ i → j ≡ i + 1
       same j g e = omega arith
@@ -35,7 +35,7 @@ module _ (rank : ℕ → ℕ) (l m : List ℕ) (n k i : ℕ) (f : n < length l) 
   slide-end p freed =
       record {
         long = r .long;
-        order = λ o j g h. r .order (hole-at previous previous-lt (value rank l) (n + 1) k (n + 1) (omega arith) o) .rest j g (omega arith) (omega arith) (omega arith);
+        order = λ o j g h. r .order (hole-at previous previous-lt (rankAt rank l) (n + 1) k (n + 1) (omega arith) o) .rest j g (omega arith) (omega arith) (omega arith);
         has = λ z. omega (arith, r .has z, count-more m n z, ap (λ (u : ℕ). is (getD m u 0) z) (last i p (r .here)));
         past = λ j h. byEq j n (λ e. rw e freed) (λ e. r .past j (omega arith));
       }

@@ -5,7 +5,7 @@ ghost use Prim.Native.Nat.{ℕ, _<_, _≤_};
 ghost use lib.ListN.{length};
 ghost use Rattle.nodes.specs.Ranks.{rank};
 ghost use Rattle.nodes.specs.Order.{Ordered};
-ghost use Rattle.nodes.specs.Holes.{value};
+ghost use Rattle.nodes.specs.Holes.{rankAt};
 ghost use Rattle.nodes.specs.Rises.{rises, Pushed, Removed};
 ghost use Rattle.rows.specs.Places.{previous};
 ghost use Rattle.rows.specs.Halves.{wordOf, Reaches};
@@ -60,8 +60,8 @@ fn word_of(high: &[u64; 128], x: u8) -> u64
 // The first of n places whose node's first word is not less than `word`, or n.
 pub fn first_at_least(row: &[u8], high: &[u64; 128], n: usize, word: u64) -> usize
     requires { ⌜ n ≤ length (now row) ⌝ ∗ ⌜ n ≤ 128 ⌝ }
-    requires { ⌜ Ordered previous (value (wordOf (now high)) (now row)) n ⌝ }
-    ensures { λ r. ⌜ Reaches (value (wordOf (now (high .entry))) (now (row .entry))) word n r ⌝ }
+    requires { ⌜ Ordered previous (rankAt (wordOf (now high)) (now row)) n ⌝ }
+    ensures { λ r. ⌜ Reaches (rankAt (wordOf (now (high .entry))) (now (row .entry))) word n r ⌝ }
 {
     let mut a: usize = 0;
     let mut b = n;

@@ -39,17 +39,17 @@ abbrev pub job : Option ℕ → List ℕ
 job none = text "-"
 job (some j) = decimal j
 
-abbrev pub word : Outcome → List ℕ
-word done = text "done"
-word enters = text "in"
-word waits = text "waits"
-word on = text "on"
-word back = text "back"
+abbrev pub outcomeWord : Outcome → List ℕ
+outcomeWord done = text "done"
+outcomeWord enters = text "in"
+outcomeWord waits = text "waits"
+outcomeWord on = text "on"
+outcomeWord back = text "back"
 
 -- What is written for event n, after `before` accepted ones, in room r: q is the room after it, `rest` the bytes after it, and `next`
 -- gives the lines from the next event on.
 abbrev pub reported : ℕ → ℕ → Room → Room → List ℕ → (ℕ → ℕ → Room → List ℕ → List ℕ) → Report → List ℕ
-reported n before r q rest next (accepted o calls count) = line (decimal n ␣ word o ␣ job calls ␣ decimal count) (next (suc n) (suc before) q rest)
+reported n before r q rest next (accepted o calls count) = line (decimal n ␣ outcomeWord o ␣ job calls ␣ decimal count) (next (suc n) (suc before) q rest)
 reported n before r q rest next (refusal k) =
     line (decimal n ␣ text "refused" ␣ decimal k) (elim (leb k 4) [ true ↦ line (text "end" ␣ decimal before) [] | false ↦ next (suc n) before r rest ])
 reported n before r q rest next nothing = line (text "end" ␣ decimal before) []

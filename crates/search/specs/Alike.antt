@@ -12,7 +12,7 @@ use Rattle.ranks.specs.Words.{keyRoom}
 use Rattle.index.specs.Index.{Index}
 use Rattle.index.specs.Unique.{index-unique}
 use Rattle.walk.specs.Walks.{walked}
-use Rattle.search.specs.Answers.{searched, asAnswer}
+use Rattle.search.specs.Answers.{searchAnswer, asAnswer}
 use Rattle.search.specs.Pairs.{waitersIn}
 use Rattle.search.specs.Live.{SlotsFit, Searchable}
 use Rattle.search.specs.Whole.{walkOrder}
@@ -48,4 +48,4 @@ module _ (measures : ℕ) (slots : ClosedSlots) (ticket high low : List ℕ) (no
     pub searches-alike : ((j : ℕ) → ltb 0 (getD entry j 0) ≡ ltb 0 (getD entry′ j 0)) → asAnswer (walked (test q) (walkOrder q)) ≡ asAnswer (walked (test r) (walkOrder r))
     searches-alike waits =
         let same = index-unique slots ticket high low entry entry′ places places′ lengths lengths′ index index′ waits in
-        search-is-the-rules-search q ∙ ap (λ e. searched now (waitersIn slots ticket e)) (same .entries) ∙ sym (search-is-the-rules-search r)
+        search-is-the-rules-search q ∙ ap (λ e. searchAnswer now (waitersIn slots ticket e)) (same .entries) ∙ sym (search-is-the-rules-search r)

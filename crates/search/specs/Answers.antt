@@ -12,18 +12,18 @@ use Rattle.rules.specs.Laws.InRankOrder.{upTo}
 use Rattle.rules.specs.Demands.Calls.{isTrue}
 use Rattle.walk.specs.declared.Walk.{Walk}
 use Rattle.walk.specs.declared.Walk.the-variants as walk
-use Rattle.walk.specs.Walks.{told, walked}
+use Rattle.walk.specs.Walks.{asWalk, walked}
 use Rattle.search.specs.declared.Answer.{Answer}
 use Rattle.search.specs.declared.Answer.the-variants.{Calls, Nobody}
 
 -- the job that is called, if one is, and the evaluated count
-abbrev pub answer : Option Pair → ℕ → Answer
-answer (some p) count = Calls (p .waiter .job) count
-answer none count = Nobody count
+abbrev pub answerFor : Option Pair → ℕ → Answer
+answerFor (some p) count = Calls (p .waiter .job) count
+answerFor none count = Nobody count
 
 -- document 01's search, over the values of the measures and the jobs that wait
-abbrev pub searched : List ℤ → List Waiter → Answer
-searched now ws = answer (found now ws) (evaluated now ws)
+abbrev pub searchAnswer : List ℤ → List Waiter → Answer
+searchAnswer now ws = answerFor (found now ws) (evaluated now ws)
 
 -- the same of a walk: a node is of job node / 4
 abbrev pub asAnswer : Walk → Answer
@@ -35,7 +35,7 @@ module _ (pairAt : ℕ → Pair) (now : List ℤ) (test : ℕ → Bool) where
   Tested l = (x : ℕ) → In x l → test x ≡ isTrue now (pairAt x)
 
   pub same-walk : (l : List ℕ) → Tested l → ((x : ℕ) → pairAt x .waiter .job ≡ x / 4) →
-      asAnswer (walked test l) ≡ answer (first (isTrue now) (map pairAt l)) (upTo (isTrue now) (map pairAt l))
+      asAnswer (walked test l) ≡ answerFor (first (isTrue now) (map pairAt l)) (upTo (isTrue now) (map pairAt l))
   unfolding walked
   same-walk l e j = go l (upTo test l) (upTo (isTrue now) (map pairAt l)) e (same-count l e)
     where
@@ -45,7 +45,7 @@ module _ (pairAt : ℕ → Pair) (now : List ℤ) (test : ℕ → Bool) where
           (λ t. rw (t, sym (e x (mathlib.Core.Logic.inl refl)) ∙ t) refl)
           (λ t. rw (t, sym (e x (mathlib.Core.Logic.inl refl)) ∙ t) (ap suc (same-count l (λ y h. e y (mathlib.Core.Logic.inr h)))))
 
-      go : (l : List ℕ) (n m : ℕ) → Tested l → n ≡ m → asAnswer (told (first test l) n) ≡ answer (first (isTrue now) (map pairAt l)) m
+      go : (l : List ℕ) (n m : ℕ) → Tested l → n ≡ m → asAnswer (asWalk (first test l) n) ≡ answerFor (first (isTrue now) (map pairAt l)) m
       go [] n m e c = ap Nobody c
       go (x ∷ l) n m e c = byBool (test x)
           (λ t. rw (t, sym (e x (mathlib.Core.Logic.inl refl)) ∙ t) (λ i. Calls (sym (j x) i) (c i)))

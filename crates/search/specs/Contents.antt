@@ -15,14 +15,14 @@ use Rattle.rules.specs.Laws.In.{In, byBool}
 use Rattle.condition.specs.Closed.{from}
 use Rattle.nodes.specs.Counts.{count, is, is-self, is-not, bit, count-more, count-at}
 use Rattle.nodes.specs.Order.{Ordered}
-use Rattle.nodes.specs.Holes.{value}
-use Rattle.nodes.specs.Sorted.{sorted, times, Ascending, Apart, sorted-times, sorted-ascending}
+use Rattle.nodes.specs.Holes.{rankAt}
+use Rattle.nodes.specs.Sorted.{sorted, timesIn, Ascending, Apart, sorted-times, sorted-ascending}
 use Rattle.rows.specs.Places.{previous, earlier-first}
 use Rattle.drain.specs.Drained.{while}
 use Rattle.search.specs.Rising.{Rising}
 
 -- the first n places hold exactly the nodes that pass, each once, and no two of one rank
-pub record Holds (rank : ℕ → ℕ) (p : ℕ → Bool) (places : List ℕ) (n : ℕ) : Type 0 where
+pub record HoldsExactly (rank : ℕ → ℕ) (p : ℕ → Bool) (places : List ℕ) (n : ℕ) : Type 0 where
   pub has : (z : ℕ) → count places n z ≡ bit (p z)
   pub apart : (y z : ℕ) → p y ≡ true → p z ≡ true → rank y ≡ rank z → y ≡ z
 
@@ -35,19 +35,19 @@ bit-true true h = refl
 bit-true false h = absurd (omega arith)
 
 -- ---- counting and being in a list
-pub times-in : (l : List ℕ) (z : ℕ) → 0 < times l z → In z l
-unfolding times
+pub times-in : (l : List ℕ) (z : ℕ) → 0 < timesIn l z → In z l
+unfolding timesIn
 times-in [] z h = absurd (omega arith)
 times-in (x ∷ l) z h = byEq x z (λ e. inl (sym e)) (λ d. inr (times-in l z (omega (arith, is-not x z d))))
 
-pub in-times : (l : List ℕ) (z : ℕ) → In z l → 0 < times l z
-unfolding times
+pub in-times : (l : List ℕ) (z : ℕ) → In z l → 0 < timesIn l z
+unfolding timesIn
 in-times [] z h = absurd h
 in-times (x ∷ l) z (inl e) = omega (arith, is-self x, ap (is x) e)
 in-times (x ∷ l) z (inr h) = omega (arith, in-times l z h)
 
-ascending-rising : (rank : ℕ → ℕ) (l : List ℕ) → Ascending rank l → ((z : ℕ) → times l z ≤ 1) → ((y z : ℕ) → In y l → In z l → rank y ≡ rank z → y ≡ z) → Rising rank l
-unfolding times Ascending
+ascending-rising : (rank : ℕ → ℕ) (l : List ℕ) → Ascending rank l → ((z : ℕ) → timesIn l z ≤ 1) → ((y z : ℕ) → In y l → In z l → rank y ≡ rank z → y ≡ z) → Rising rank l
+unfolding timesIn Ascending
 ascending-rising rank [] a o d = tt
 ascending-rising rank (x ∷ l) a o d = (
   (λ z h. byEq (rank x) (rank z)
@@ -56,7 +56,7 @@ ascending-rising rank (x ∷ l) a o d = (
   ascending-rising rank l (a .1) (λ z. omega (arith, o z)) (λ y z p q. d y z (inr p) (inr q)),
 )
 
-module _ (rank : ℕ → ℕ) (p : ℕ → Bool) (places : List ℕ) (n : ℕ) (h : Holds rank p places n) where
+module _ (rank : ℕ → ℕ) (p : ℕ → Bool) (places : List ℕ) (n : ℕ) (h : HoldsExactly rank p places n) where
   pub passes : (z : ℕ) → 0 < count places n z → p z ≡ true
   passes z q = bit-true (p z) (omega (arith, h .has z))
 
@@ -135,10 +135,10 @@ twice l n i j p q e =
     let some : 0 < count l j z = rw e at (count-at l j i p) in
     omega (arith, some, count-more l j z, is-self z, rw full at (count-grows l (j + 1) z (n - (j + 1))))
 
-module _ (rank : ℕ → ℕ) (p : ℕ → Bool) (row : List ℕ) (n : ℕ) (h : Holds rank p row n) (o : Ordered previous (value rank row) n) where
+module _ (rank : ℕ → ℕ) (p : ℕ → Bool) (row : List ℕ) (n : ℕ) (h : HoldsExactly rank p row n) (o : Ordered previous (rankAt rank row) n) where
   pub row-strict : (i j : ℕ) → i < j → j < n → rank (getD row i 0) < rank (getD row j 0)
   row-strict i j q r =
-      let le = earlier-first (value rank row) n i j o (omega arith) r in
+      let le = earlier-first (rankAt rank row) n i j o (omega arith) r in
       byEq (rank (getD row i 0)) (rank (getD row j 0))
       (λ e. let same : getD row i 0 ≡ getD row j 0 = h .apart (getD row i 0) (getD row j 0) (passes rank p row n h (getD row i 0) (count-at row n i (omega arith))) (passes rank p row n h (getD row j 0) (count-at row n j r)) e in
       absurd (omega (arith, twice row n i j q r same, h .has (getD row j 0), bit-most (p (getD row j 0)))))

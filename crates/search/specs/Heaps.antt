@@ -9,7 +9,7 @@ use lib.ListN.{getD, length, take, drop, length-drop}
 use lib.Seq.{length-take-le}
 use Rattle.rules.specs.Laws.In.{byBool}
 use Rattle.nodes.specs.Order.{Ordered}
-use Rattle.nodes.specs.Holes.{value}
+use Rattle.nodes.specs.Holes.{rankAt}
 use Rattle.nodes.specs.Sorted.{sorted, among, Apart}
 use Rattle.heap.specs.Places.{above}
 use Rattle.homes.specs.Regions.{region}
@@ -23,7 +23,7 @@ thresholds tag rank places lengths g = while tag (sorted rank (region places g) 
 
 pub record Ready (rank : ℕ → ℕ) (places lengths : List ℕ) (g : ℕ) : Type 0 where
   pub few : getD lengths g 0 ≤ 128
-  pub order : Ordered above (value rank (region places g)) (getD lengths g 0)
+  pub order : Ordered above (rankAt rank (region places g)) (getD lengths g 0)
   pub apart : Apart rank (sorted rank (region places g) (getD lengths g 0))
 
 -- k is the number of a heap's places
@@ -31,7 +31,7 @@ module _ (rank : ℕ → ℕ) (places lengths : List ℕ) (g k : ℕ) (size : k 
   pub part-fits : Ready rank places lengths g → length places ≡ 4352 → g < 32 → getD lengths g 0 ≤ length (take k (drop (g * 128) places))
   part-fits r e h = rw size (omega (arith, r .few, length-take-le 128 (drop (g * 128) places) (omega (arith, length-drop (g * 128) places))))
 
-  pub part-order : Ready rank places lengths g → Ordered above (value rank (take k (drop (g * 128) places))) (getD lengths g 0)
+  pub part-order : Ready rank places lengths g → Ordered above (rankAt rank (take k (drop (g * 128) places))) (getD lengths g 0)
   part-order r = rw size (r .order)
 
   pub part-apart : Ready rank places lengths g → Apart rank (sorted rank (take k (drop (g * 128) places)) (getD lengths g 0))

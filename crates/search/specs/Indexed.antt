@@ -3,12 +3,10 @@ use mathlib.Core.List.{List}
 use Prim.Native.Nat.{ℕ, _^_, _<_}
 use lib.IntN.{ℤ}
 use lib.ListN.{getD}
-use Rattle.rules.specs.Search.{Waiter}
 use Rattle.condition.specs.Measures.{Ranges, nowAt}
 use Rattle.condition.specs.Closing.{closedSlots}
 use Rattle.filing.specs.Filed.{measures-within}
 use Rattle.index.specs.Index.{Index}
-use Rattle.search.specs.Pairs.{waitersIn}
 use Rattle.search.specs.Live.{SlotsFit, Searchable}
 
 pub record Indexed (measures : ℕ) (atoms measure operator : List ℕ) (key : List ℤ) (high low places lengths : List ℕ) : Type 0 where
@@ -18,10 +16,6 @@ pub record Indexed (measures : ℕ) (atoms measure operator : List ℕ) (key : L
   pub fit : SlotsFit measures (closedSlots alternatives atoms measure operator key)
   pub index : Index (closedSlots alternatives atoms measure operator key) ticket entry high low places lengths
   pub ticket-fits : (k : ℕ) → getD ticket k 0 < 2 ^ 32
-
--- the jobs that wait
-abbrev pub waitersOf : (measures : ℕ) (atoms measure operator : List ℕ) (key : List ℤ) (high low places lengths : List ℕ) → Indexed measures atoms measure operator key high low places lengths → List Waiter
-waitersOf measures atoms measure operator key high low places lengths i = waitersIn (closedSlots (i .alternatives) atoms measure operator key) (i .ticket) (i .entry)
 
 module _ (measures : ℕ) (atoms measure operator : List ℕ) (key : List ℤ) (high low places lengths : List ℕ) (coefficients values : List ℤ) where
   abbrev pub searchable : Ranges coefficients values key → Indexed measures atoms measure operator key high low places lengths → Searchable

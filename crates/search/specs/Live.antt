@@ -25,11 +25,11 @@ use Rattle.nodes.specs.Ranks.{two, rank}
 use Rattle.rows.specs.Halves.{wordOf}
 use Rattle.homes.specs.Regions.{region}
 use Rattle.entries.specs.Entries.{Waits, isLead, waits-below}
-use Rattle.index.specs.Filed.{homeIn, tagIn, countIn, isNode}
+use Rattle.index.specs.Filed.{homeIn, tagIn, alternativesIn, isNode}
 use Rattle.index.specs.Apart as apart
 use Rattle.index.specs.Index.{Index}
 use Rattle.drain.specs.Drained.{nodeTag}
-use Rattle.search.specs.Contents.{Holds}
+use Rattle.search.specs.Contents.{HoldsExactly}
 
 -- what stands in the slots of all conditions keeps to document 01's ranges, in a room with so many measures
 pub record SlotsFit (measures : ℕ) (s : ClosedSlots) : Type 0 where
@@ -83,13 +83,13 @@ module _ (q : Searchable) where
     pub below : x < 128
     pub lead : isLead (q .entry) (x / 4) ≡ true
     pub waits : Waits (q .entry) (x / 4)
-    pub one-of : x % 4 < countIn (q .slots) (x / 4)
+    pub one-of : x % 4 < alternativesIn (q .slots) (x / 4)
     pub high-is : wordOf (q .high) x ≡ highWord (tagFor x)
     pub low-is : getD (q .low) (x % 128) 0 ≡ lowWord (getD (q .ticket) (x / 4) 0) (x % 4)
 
   pub node-is : (x : ℕ) → node x ≡ true → Node x
   node-is x t =
-      let b = both (isLead (q .entry) (x / 4)) (ltb (x % 4) (countIn (q .slots) (x / 4))) t in
+      let b = both (isLead (q .entry) (x / 4)) (ltb (x % 4) (alternativesIn (q .slots) (x / 4))) t in
       let e = eqb-true (getD (q .entry) (x / 4) 0) (x / 4 + 1) (b .0) in
       let w : Waits (q .entry) (x / 4) = omega (arith, e) in
       let job : x / 4 < 32 = waits-below (q .entry) 32 (x / 4) (omega (arith, q .index .size)) w in
@@ -100,7 +100,7 @@ module _ (q : Searchable) where
         below = omega arith;
         lead = b .0;
         waits = w;
-        one-of = ltb-true (x % 4) (countIn (q .slots) (x / 4)) (b .1);
+        one-of = ltb-true (x % 4) (alternativesIn (q .slots) (x / 4)) (b .1);
         high-is = ap (λ y. getD (q .high) y 0) (small ∙ sym same) ∙ r .0 ∙ ap (λ y. highWord (tagFor y)) same;
         low-is = ap (λ y. getD (q .low) y 0) (small ∙ sym same) ∙ r .1;
       }
@@ -121,7 +121,7 @@ module _ (q : Searchable) where
   abbrev pub belongs : ℕ → ℕ → Bool
   belongs h x = node x && eqb (homeFor x) h
 
-  pub home-holds : (h : ℕ) → h < 34 → Holds rankOf (belongs h) (region (q .places) h) (getD (q .lengths) h 0)
+  pub home-holds : (h : ℕ) → h < 34 → HoldsExactly rankOf (belongs h) (region (q .places) h) (getD (q .lengths) h 0)
   home-holds h p = record {
     has = λ z. q .index .filed .has h z p;
     apart = λ y z a b e. nodes-apart y z (both (node y) (eqb (homeFor y) h) a .0) (both (node z) (eqb (homeFor z) h) b .0) e;

@@ -20,7 +20,7 @@ use Rattle.rules.specs.Laws.In.{In, byBool, true-not-false, in-those, those-in,
 use Rattle.rules.specs.Laws.Waiting.{of, pairsOf-in}
 use Rattle.rules.specs.Laws.Rearranged.{Once, Rearranged, same-members}
 use Rattle.rules.specs.Demands.Ranks.{rank-same}
-use Rattle.rules.specs.Laws.InRankOrder.{Ordered, ordered-once}
+use Rattle.rules.specs.Laws.InRankOrder.{InRankOrder, ordered-once}
 use Rattle.condition.specs.Closed.{from, alternativeAt}
 use Rattle.condition.specs.Closing.{ClosedSlots}
 use Rattle.condition.specs.Closes.{conditionIn}
@@ -147,11 +147,11 @@ module _ (s : ClosedSlots) (ticket entry : List ℕ) where
         those-in (λ v. not (follows waitersIn v)) waitersIn (waiters-in j (q .0) (q .1)) (ap not (leads j (q .1)) ∙ double (lead j) ∙ t)
 
     -- all of them, in whatever order
-    pub record Listed (now : List ℤ) (all : List ℕ) : Type 0 where
+    pub record AllListed (now : List ℤ) (all : List ℕ) : Type 0 where
       pub only : (x : ℕ) → In x all → (lead (x / 4) ≡ true) × (x % 4 < countAt (x / 4)) × (tagHolds now (alternativeOf x) ≡ true)
       pub every : (x : ℕ) → lead (x / 4) ≡ true → x % 4 < countAt (x / 4) → tagHolds now (alternativeOf x) ≡ true → In x all
 
-    module _ (now : List ℤ) (all : List ℕ) (listed : Listed now all) where
+    module _ (now : List ℤ) (all : List ℕ) (listed : AllListed now all) where
       map-in : (l : List ℕ) (x : ℕ) → In x l → In (pairAt x) (map pairAt l)
       map-in [] x h = absurd h
       map-in (y ∷ l) x (inl e) = inl (ap pairAt e)
@@ -202,13 +202,13 @@ module _ (s : ClosedSlots) (ticket entry : List ℕ) where
               (λ p a b. let g = in-gather of p l b in
               o .0 (subst (λ (v : Waiter). In v l) (sym (pairsOf-in (g .0) p 0 (g .0 .condition) (g .2) .0) ∙ pairsOf-in w p 0 (w .condition) a .0) (g .1)))
 
-      pub rearranged : Ordered (map pairAt all) → Rearranged counted (map pairAt all)
+      pub rearranged : InRankOrder (map pairAt all) → Rearranged counted (map pairAt all)
       rearranged o = same-members counted (map pairAt all) (once-those (λ p. tagHolds now (p .alternative)) (pairs (oldest waitersIn)) pairs-once) (ordered-once (map pairAt all) o) into out-of
 
-      pub ordered-pairs : (rank : ℕ → ℕ) → Rising rank all → ((x y : ℕ) → In x all → In y all → rank x < rank y → before (pairAt x .rank) (pairAt y .rank) ≡ true) → Ordered (map pairAt all)
+      pub ordered-pairs : (rank : ℕ → ℕ) → Rising rank all → ((x y : ℕ) → In x all → In y all → rank x < rank y → before (pairAt x .rank) (pairAt y .rank) ≡ true) → InRankOrder (map pairAt all)
       ordered-pairs rank r f = go all r f
         where
-          go : (l : List ℕ) → Rising rank l → ((x y : ℕ) → In x l → In y l → rank x < rank y → before (pairAt x .rank) (pairAt y .rank) ≡ true) → Ordered (map pairAt l)
+          go : (l : List ℕ) → Rising rank l → ((x y : ℕ) → In x l → In y l → rank x < rank y → before (pairAt x .rank) (pairAt y .rank) ≡ true) → InRankOrder (map pairAt l)
           go [] r f = tt
           go (x ∷ l) r f = (
             (λ q h. let m = in-map l q h in ap (λ (p : Pair). before (pairAt x .rank) (p .rank)) (m .2) ∙ f x (m .0) (inl refl) (inr (m .1)) (r .0 (m .0) (m .1))),

@@ -10,7 +10,7 @@ use lib.ListN.{getD, length, take, drop, length-append, length-drop}
 use lib.Seq.{length-take-le}
 use Rattle.condition.specs.Closing.{from-many}
 use Rattle.nodes.specs.Order.{Ordered}
-use Rattle.nodes.specs.Holes.{value}
+use Rattle.nodes.specs.Holes.{rankAt}
 use Rattle.rows.specs.Places.{previous}
 use Rattle.rows.specs.Halves.{wordOf}
 use Rattle.rows.specs.Words.{words-ordered}
@@ -32,7 +32,7 @@ pub record Prepared (rank : ℕ → ℕ) (high places lengths : List ℕ) : Type
   pub long : length places ≡ 4352
   pub many : length lengths ≡ 34
   pub equalities-few : getD lengths 32 0 ≤ 128
-  pub equalities-order : Ordered previous (value (wordOf high) (region places 32)) (getD lengths 32 0)
+  pub equalities-order : Ordered previous (rankAt (wordOf high) (region places 32)) (getD lengths 32 0)
   pub heaps : (g : ℕ) → g < 32 → Ready rank places lengths g
   pub untagged-few : getD lengths 33 0 ≤ 128
 

@@ -15,7 +15,7 @@ use Rattle.rules.specs.Search.{Waiter, Pair, follows}
 use Rattle.rules.specs.Laws.Cases.{byEq}
 use Rattle.rules.specs.Laws.In.{In, byBool, true-not-false, both, any-in, any-some}
 use Rattle.rules.specs.Laws.Identical.{identical-true, identical-same}
-use Rattle.rules.specs.Laws.InRankOrder.{Ordered, law-found, law-count}
+use Rattle.rules.specs.Laws.InRankOrder.{InRankOrder, law-found, law-count}
 use Rattle.condition.specs.Tags.{tag-means}
 use Rattle.condition.specs.Closes.{conditionIn}
 use Rattle.ranks.specs.Words.{word, highWord, TagFits}
@@ -23,15 +23,15 @@ use Rattle.ranks.specs.Law.{word-order}
 use Rattle.nodes.specs.Ranks.{two}
 use Rattle.rows.specs.Halves.{wordOf}
 use Rattle.entries.specs.Entries.{Waits, isLead, waits-below}
-use Rattle.index.specs.Filed.{countIn}
+use Rattle.index.specs.Filed.{alternativesIn}
 use Rattle.walk.specs.Walks.{nodeTrue, walked}
 use Rattle.homes.specs.Regions.{region}
 use Rattle.search.specs.Stretches.{lists}
 use Rattle.search.specs.Runs.{nodesOf}
 use Rattle.search.specs.Lookups.{equalities}
 use Rattle.search.specs.Heaps.{thresholds}
-use Rattle.search.specs.Answers.{answer, searched, asAnswer, same-walk}
-use Rattle.search.specs.Pairs.{waiterAt, waitersIn, in-waiters, waiters-in, alternativeOf, pairAt, Listed, rearranged, ordered-pairs}
+use Rattle.search.specs.Answers.{answerFor, searchAnswer, asAnswer, same-walk}
+use Rattle.search.specs.Pairs.{waiterAt, waitersIn, in-waiters, waiters-in, alternativeOf, pairAt, AllListed, rearranged, ordered-pairs}
 use Rattle.search.specs.Live.{Searchable, node, rankOf, tagFor, tagged, node-is, fits-is, tag-is}
 use Rattle.search.specs.Stretched.{holding, in-holding, holding-in, rising-holding}
 use Rattle.search.specs.Whole.{walkOrder, walks-holding}
@@ -88,14 +88,14 @@ module _ (q : Searchable) where
   tagged-is : (x : ℕ) → node q x ≡ true → tagged q x ≡ tagHolds (q .now) (alternative x)
   tagged-is x n = tag-is q x n ∙ ap (holds (q .now)) (tag-of x)
 
-  nodes-listed : Listed (q .slots) (q .ticket) (q .entry) (isLead (q .entry)) lead-waits leads-oldest (q .now) (holding q)
+  nodes-listed : AllListed (q .slots) (q .ticket) (q .entry) (isLead (q .entry)) lead-waits leads-oldest (q .now) (holding q)
   nodes-listed = record {
     only = λ x h.
         let a = in-holding q x h in
         let n = node-is q x (a .0) in
         (n .lead, n .one-of, sym (tagged-is x (a .0)) ∙ a .1);
     every = λ x l c t.
-        let n : node q x ≡ true = rw (l, lt-ltb (x % 4) (countIn (q .slots) (x / 4)) c) in
+        let n : node q x ≡ true = rw (l, lt-ltb (x % 4) (alternativesIn (q .slots) (x / 4)) c) in
         holding-in q x n (tagged-is x n ∙ t);
   }
 
@@ -121,21 +121,21 @@ module _ (q : Searchable) where
       ∙ lt-ltb (word (alternative (x / 4 * 4 + x % 4)) (getD (q .ticket) (x / 4) 0) (x % 4)) (word (alternative (y / 4 * 4 + y % 4)) (getD (q .ticket) (y / 4) 0) (y % 4))
       (omega (arith, l, rank-word x (a .0), rank-word y (b .0)))
 
-  pairs-ordered : Ordered (map pair (holding q))
+  pairs-ordered : InRankOrder (map pair (holding q))
   pairs-ordered = ordered-pairs (q .slots) (q .ticket) (q .entry) (isLead (q .entry)) lead-waits leads-oldest (q .now) (holding q) nodes-listed (rankOf q) (rising-holding q) in-rank-order
 
   -- ---- the theorem
   abbrev pub test : ℕ → Bool
   test = nodeTrue (q .now) (q .slots .atoms) (q .slots .measure) (q .slots .operator) (q .slots .key)
 
-  pub search-is-the-rules-search : asAnswer (walked test (walkOrder q)) ≡ searched (q .now) waiting
+  pub search-is-the-rules-search : asAnswer (walked test (walkOrder q)) ≡ searchAnswer (q .now) waiting
   search-is-the-rules-search =
       let held = rearranged (q .slots) (q .ticket) (q .entry) (isLead (q .entry)) lead-waits leads-oldest (q .now) (holding q) nodes-listed pairs-ordered in
       ap (λ l. asAnswer (walked test l)) (walks-holding q)
       ∙ same-walk pair (q .now) test (holding q)
       (λ x h. let small : x % 128 ≡ x = omega (arith, node-is q x (in-holding q x h .0) .below) in ap (λ y. alternativeTrue (q .now) (alternative y)) (small ∙ sym (whole x)))
       (λ x. refl)
-      ∙ (λ i. answer (law-found (q .now) waiting (map pair (holding q)) pairs-ordered held i) (law-count (q .now) waiting (map pair (holding q)) pairs-ordered held i))
+      ∙ (λ i. answerFor (law-found (q .now) waiting (map pair (holding q)) pairs-ordered held i) (law-count (q .now) waiting (map pair (holding q)) pairs-ordered held i))
 
   -- as the code tells it
   pub walked-order : asAnswer (walked test (lists (equalities (q .now) (q .high) (region (q .places) 32) (getD (q .lengths) 32 0)) (q .measures) 0

@@ -12,7 +12,7 @@ use Rattle.rules.specs.Base.{if_then_else_, those}
 use Rattle.rules.specs.Laws.Cases.{byLt}
 use Rattle.rules.specs.Laws.In.{In, byBool, those-none}
 use Rattle.condition.specs.Closed.{from}
-use Rattle.nodes.specs.Holes.{value}
+use Rattle.nodes.specs.Holes.{rankAt}
 use Rattle.rows.specs.Halves.{wordOf, Reaches}
 use Rattle.search.specs.Contents.{part-from, from-in}
 
@@ -20,8 +20,8 @@ use Rattle.search.specs.Contents.{part-from, from-in}
 abbrev pub nodesOf : List ℕ → ℕ → List ℕ
 nodesOf row n = from (λ j. getD row j 0) n 0
 
-unfoldable pub run : List ℕ → List ℕ → ℕ → ℕ → List ℕ
-run high row n w = those (λ x. eqb (wordOf high x) w) (nodesOf row n)
+unfoldable pub wordRun : List ℕ → List ℕ → ℕ → ℕ → List ℕ
+wordRun high row n w = those (λ x. eqb (wordOf high x) w) (nodesOf row n)
 
 from-split : (f : ℕ → ℕ) (k m p : ℕ) → from f (k + m) p ≡ from f k p ++ from f m (p + k)
 from-split f zero m p = let e : 0 + m ≡ m = omega arith in rw (e, add-zero p) refl
@@ -42,7 +42,7 @@ none-right : (l : List ℕ) → l ++ [] ≡ l
 none-right [] = refl
 none-right (x ∷ l) = ap (λ k. x ∷ k) (none-right l)
 
-module _ (high row : List ℕ) (n w a b : ℕ) (fits : n ≤ length row) (f : Reaches (value (wordOf high) row) w n a) (g : Reaches (value (wordOf high) row) (w + 1) n b) where
+module _ (high row : List ℕ) (n w a b : ℕ) (fits : n ≤ length row) (f : Reaches (rankAt (wordOf high) row) w n a) (g : Reaches (rankAt (wordOf high) row) (w + 1) n b) where
   abbrev test : ℕ → Bool
   test x = eqb (wordOf high x) w
 
@@ -56,8 +56,8 @@ module _ (high row : List ℕ) (n w a b : ℕ) (fits : n ≤ length row) (f : Re
   failing : (k p : ℕ) → ((j : ℕ) → p ≤ j → j < p + k → wordOf high (at j) ≡ w → ⊥) → those test (from at k p) ≡ []
   failing k p h = those-none test (from at k p) (λ x i. let r = from-in at k p x i in ne-eqb (wordOf high x) w (λ e. h (r .0) (r .1) (r .2) (ap (wordOf high) (r .3) ∙ e)))
 
-  pub run-part : take (b - a) (drop a row) ≡ run high row n w
-  unfolding run
+  pub run-part : take (b - a) (drop a row) ≡ wordRun high row n w
+  unfolding wordRun
   run-part =
       let o = run-order in
       let e : n ≡ a + (b - a + (n - b)) = omega (arith, o, g .most) in
@@ -82,14 +82,14 @@ module _ (high row : List ℕ) (n w a b : ℕ) (fits : n ≤ length row) (f : Re
       ∙ (λ i. middle i ++ last i)
       ∙ none-right (from at (b - a) a))
 
-pub run-most : (high row : List ℕ) (n w : ℕ) → length (run high row n w) ≤ n
-unfolding run
+pub run-most : (high row : List ℕ) (n w : ℕ) → length (wordRun high row n w) ≤ n
+unfolding wordRun
 run-most high row n w = those-most (λ x. eqb (wordOf high x) w) (λ j. getD row j 0) n 0
   where
     those-most : (p : ℕ → Bool) (f : ℕ → ℕ) (n a : ℕ) → length (those p (from f n a)) ≤ n
     those-most p f zero a = omega arith
     those-most p f (suc n) a = byBool (p (f a)) (λ t. rw t (omega (arith, those-most p f n (suc a)))) (λ t. rw t (omega (arith, those-most p f n (suc a))))
 
-pub run-none : (high row : List ℕ) (n w : ℕ) → n ≡ 0 → [] ≡ run high row n w
-unfolding run
+pub run-none : (high row : List ℕ) (n w : ℕ) → n ≡ 0 → [] ≡ wordRun high row n w
+unfolding wordRun
 run-none high row n w e = rw e refl

@@ -12,14 +12,14 @@ use Rattle.rules.specs.Laws.In.{In, both}
 use Rattle.filing.specs.Bands as bands
 use Rattle.nodes.specs.Counts.{count-find, count-at}
 use Rattle.nodes.specs.Order.{Ordered}
-use Rattle.nodes.specs.Holes.{value}
+use Rattle.nodes.specs.Holes.{rankAt}
 use Rattle.nodes.specs.Sorted.{sorted}
 use Rattle.rows.specs.Places.{previous}
 use Rattle.homes.specs.Orders.{over-row}
 use Rattle.homes.specs.Regions.{region}
 use Rattle.search.specs.Rising.{Rising, listed, in-listed, listed-in, rising-listed}
 use Rattle.search.specs.Bands.{Stretch}
-use Rattle.search.specs.Contents.{Holds, passes, stands, in-sorted, sorted-in, rising-sorted, while-only, while-rising, while-every, from-in, in-from, rising-part}
+use Rattle.search.specs.Contents.{HoldsExactly, passes, stands, in-sorted, sorted-in, rising-sorted, while-only, while-rising, while-every, from-in, in-from, rising-part}
 use Rattle.search.specs.Runs.{nodesOf}
 use Rattle.search.specs.Heaps.{thresholds}
 use Rattle.search.specs.Live.{Searchable, node, rankOf, tagFor, homeFor, tagged, node-is, nodes-apart, by-word, word-before, belongs, home-holds, belongs-node, node-belongs, home-is, fits-is, operator-is, tag-is}
@@ -53,7 +53,7 @@ module _ (q : Searchable) where
   heapOf g = sorted (rankOf q) (region (q .places) g) (getD (q .lengths) g 0)
 
   module _ (g : ℕ) (small : g < 32) where
-    held : Holds (rankOf q) (belongs q g) (region (q .places) g) (getD (q .lengths) g 0)
+    held : HoldsExactly (rankOf q) (belongs q g) (region (q .places) g) (getD (q .lengths) g 0)
     held = home-holds q g (omega arith)
 
     of-heap : (x : ℕ) → In x (heapOf g) → (node q x ≡ true) × (homeFor q x ≡ g)
@@ -99,10 +99,10 @@ module _ (q : Searchable) where
     abbrev count : ℕ
     count = getD (q .lengths) h 0
 
-    row-held : Holds (rankOf q) (belongs q h) rowOf count
+    row-held : HoldsExactly (rankOf q) (belongs q h) rowOf count
     row-held = home-holds q h small
 
-    pub row-order : Ordered previous (value (rankOf q) rowOf) count
+    pub row-order : Ordered previous (rankAt (rankOf q) rowOf) count
     row-order = rw (over-row h row) at (q .index .filed .order h small)
 
     pub in-row : (x : ℕ) → In x (nodesOf rowOf count) → (node q x ≡ true) × (homeFor q x ≡ h)

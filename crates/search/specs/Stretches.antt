@@ -15,7 +15,7 @@ use Rattle.rules.specs.Laws.InRankOrder.{upTo}
 use Rattle.condition.specs.Closed.{from}
 use Rattle.walk.specs.declared.Walk.{Walk}
 use Rattle.walk.specs.declared.Walk.the-variants.{Found, Nobody}
-use Rattle.walk.specs.Walks.{told, walked, walkedOn, none-before}
+use Rattle.walk.specs.Walks.{asWalk, walked, walkedOn, none-before}
 
 found-not-nobody : {x k n : ℕ} → Found x k ≡ Nobody n → ⊥
 found-not-nobody e = let z : _≡_ {A = ℕ} 0 1 = cc in omega arith
@@ -33,11 +33,11 @@ module _ (test : ℕ → Bool) where
       (λ t. absurd (none-some (sym (rw t at e))))
       (λ t. let r = none-append l m (rw t at e) in (rw t (r .0), rw t (omega (arith, r .1))))
 
-  found-is : (o : Option ℕ) (n x k : ℕ) → Found x k ≡ told o n → (o ≡ some x) × (k ≡ n)
+  found-is : (o : Option ℕ) (n x k : ℕ) → Found x k ≡ asWalk o n → (o ≡ some x) × (k ≡ n)
   found-is (some y) n x k e = (cc, cc)
   found-is none n x k e = absurd (found-not-nobody e)
 
-  nobody-is : (o : Option ℕ) (n k : ℕ) → Nobody k ≡ told o n → (o ≡ none) × (k ≡ n)
+  nobody-is : (o : Option ℕ) (n k : ℕ) → Nobody k ≡ asWalk o n → (o ≡ none) × (k ≡ n)
   nobody-is (some y) n k e = absurd (found-not-nobody (sym e))
   nobody-is none n k e = (refl, cc)
 
@@ -47,7 +47,7 @@ module _ (test : ℕ → Bool) where
       let i = found-is (first test l) (upTo test l) x k e in
       let r = first-append l m x (i .0) in
       let n : c + k ≡ c + upTo test (l ++ m) = omega (arith, i .1, r .1) in
-      ap (Found x) n ∙ ap (λ o. told o (c + upTo test (l ++ m))) (sym (r .0))
+      ap (Found x) n ∙ ap (λ o. asWalk o (c + upTo test (l ++ m))) (sym (r .0))
 
   pub walk-goes-on : (l m : List ℕ) (c k : ℕ) → Nobody k ≡ walked test l → walkedOn test (c + k) m ≡ walkedOn test c (l ++ m)
   unfolding walked walkedOn
@@ -55,7 +55,7 @@ module _ (test : ℕ → Bool) where
       let i = nobody-is (first test l) (upTo test l) k e in
       let r = none-append l m (i .0) in
       let n : c + k + upTo test m ≡ c + upTo test (l ++ m) = omega (arith, i .1, r .1) in
-      ap (told (first test m)) n ∙ ap (λ o. told o (c + upTo test (l ++ m))) (sym (r .0))
+      ap (asWalk (first test m)) n ∙ ap (λ o. asWalk o (c + upTo test (l ++ m))) (sym (r .0))
 
 -- how many a walk evaluated
 abbrev pub countOf : Walk → ℕ
@@ -63,9 +63,9 @@ countOf (Found x k) = k
 countOf (Nobody k) = k
 
 -- a walk with so many evaluated before
-abbrev pub after : ℕ → Walk → Walk
-after before (Found x k) = Found x (before + k)
-after before (Nobody k) = Nobody (before + k)
+abbrev pub countedFrom : ℕ → Walk → Walk
+countedFrom before (Found x k) = Found x (before + k)
+countedFrom before (Nobody k) = Nobody (before + k)
 
 pub count-most : (test : ℕ → Bool) (l : List ℕ) (most : ℕ) {u : Walk} → u ≡ walked test l → length l ≤ most → countOf u ≤ most
 unfolding walked
@@ -75,7 +75,7 @@ count-most test l most {u} e h = rw e (go (first test l) (upTo test l) (omega (a
     upTo-most [] = omega arith
     upTo-most (x ∷ l) = byBool (test x) (λ t. rw t (omega arith)) (λ t. rw t (omega (arith, upTo-most l)))
 
-    go : (o : Option ℕ) (n : ℕ) → n ≤ most → countOf (told o n) ≤ most
+    go : (o : Option ℕ) (n : ℕ) → n ≤ most → countOf (asWalk o n) ≤ most
     go (some x) n h = h
     go none n h = h
 
@@ -89,11 +89,11 @@ found-fits {u} {x} {k} before e p h = let m : k ≤ 8192 = rw e at h in record {
 pub nobody-fits : {u : Walk} {k : ℕ} (before : ℕ) → u ≡ Nobody k → before ≤ 8192 → countOf u ≤ 8192 → Fits w64 (before + k)
 nobody-fits {u} {k} before e p h = let m : k ≤ 8192 = rw e at h in record { fits = omega arith }
 
-pub after-found : {u : Walk} {x k : ℕ} (before : ℕ) → u ≡ Found x k → Found x (before + k) ≡ after before u
-after-found before e = ap (after before) (sym e)
+pub after-found : {u : Walk} {x k : ℕ} (before : ℕ) → u ≡ Found x k → Found x (before + k) ≡ countedFrom before u
+after-found before e = ap (countedFrom before) (sym e)
 
-pub after-nobody : {u : Walk} {k : ℕ} (before : ℕ) → u ≡ Nobody k → Nobody (before + k) ≡ after before u
-after-nobody before e = ap (after before) (sym e)
+pub after-nobody : {u : Walk} {k : ℕ} (before : ℕ) → u ≡ Nobody k → Nobody (before + k) ≡ countedFrom before u
+after-nobody before e = ap (countedFrom before) (sym e)
 
 -- so many lists one after the other, from number i on
 abbrev pub lists : (ℕ → List ℕ) → ℕ → ℕ → List ℕ
@@ -119,7 +119,7 @@ module _ (test : ℕ → Bool) (f : ℕ → List ℕ) (n : ℕ) where
         let b : before + 0 ≡ before = omega arith in
         ap Nobody (sym b) ∙ (rw z at e)
 
-    module _ (h : i < n) {r u : Walk} (is : u ≡ walked test (f i)) (told-after : r ≡ after before u) where
+    module _ (h : i < n) {r u : Walk} (is : u ≡ walked test (f i)) (told-after : r ≡ countedFrom before u) where
       step : n - i ≡ suc (n - (i + 1))
       step = omega arith
 
@@ -132,14 +132,14 @@ module _ (test : ℕ → Bool) (f : ℕ → List ℕ) (n : ℕ) where
       pub lists-find : (x k : ℕ) → r ≡ Found x k → r ≡ w
       lists-find x k q = go u is told-after
         where
-          go : (u : Walk) → u ≡ walked test (f i) → r ≡ after before u → r ≡ w
+          go : (u : Walk) → u ≡ walked test (f i) → r ≡ countedFrom before u → r ≡ w
           go (Found y m) d t = t ∙ walk-finds test (f i) (lists f (n - (i + 1)) (i + 1)) before y m d ∙ split
           go (Nobody m) d t = absurd (found-not-nobody (sym q ∙ t))
 
       pub lists-pass : (k : ℕ) → r ≡ Nobody k → listsLeft k (i + 1) ≡ w
       lists-pass k q = go u is told-after
         where
-          go : (u : Walk) → u ≡ walked test (f i) → r ≡ after before u → listsLeft k (i + 1) ≡ w
+          go : (u : Walk) → u ≡ walked test (f i) → r ≡ countedFrom before u → listsLeft k (i + 1) ≡ w
           go (Found y m) d t = absurd (found-not-nobody (sym t ∙ q))
           go (Nobody m) d t =
               let c : k ≡ before + m = cc in
@@ -148,7 +148,7 @@ module _ (test : ℕ → Bool) (f : ℕ → List ℕ) (n : ℕ) where
       pub lists-most : (k most : ℕ) → r ≡ Nobody k → length (f i) ≤ most → k ≤ before + most
       lists-most k most q l = go u is told-after
         where
-          go : (u : Walk) → u ≡ walked test (f i) → r ≡ after before u → k ≤ before + most
+          go : (u : Walk) → u ≡ walked test (f i) → r ≡ countedFrom before u → k ≤ before + most
           go (Found y m) d t = absurd (found-not-nobody (sym t ∙ q))
           go (Nobody m) d t = let c : k ≡ before + m = cc in omega (arith, count-most test (f i) most d l)
 
@@ -160,13 +160,13 @@ module _ (test : ℕ → Bool) (l m : List ℕ) {r : Walk} (first-is : r ≡ wal
       zero-more : k ≡ 0 + k
       zero-more = omega arith
 
-  pub then-next : {u : Walk} (k : ℕ) → r ≡ Nobody k → u ≡ walked test m → after k u ≡ walked test (l ++ m)
+  pub then-next : {u : Walk} (k : ℕ) → r ≡ Nobody k → u ≡ walked test m → countedFrom k u ≡ walked test (l ++ m)
   unfolding walked walkedOn
-  then-next {u} k q d = ap (after k) d ∙ both (first test m) (upTo test m) ∙ walk-goes-on test l m 0 k (sym q ∙ first-is) ∙ none-before test (l ++ m)
+  then-next {u} k q d = ap (countedFrom k) d ∙ both (first test m) (upTo test m) ∙ walk-goes-on test l m 0 k (sym q ∙ first-is) ∙ none-before test (l ++ m)
     where
       zero-more : 0 + k ≡ k
       zero-more = omega arith
 
-      both : (o : Option ℕ) (n : ℕ) → after k (told o n) ≡ told o (0 + k + n)
+      both : (o : Option ℕ) (n : ℕ) → countedFrom k (asWalk o n) ≡ asWalk o (0 + k + n)
       both (some x) n = ap (λ b. Found x (b + n)) (sym zero-more)
       both none n = ap (λ b. Nobody (b + n)) (sym zero-more)

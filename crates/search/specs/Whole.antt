@@ -17,7 +17,7 @@ use Rattle.homes.specs.Regions.{region}
 use Rattle.search.specs.Rising.{rising-those}
 use Rattle.search.specs.Stretches.{lists}
 use Rattle.search.specs.Bands.{stretch-reaches, stretch-whole, stretch-append, stretch-lists}
-use Rattle.search.specs.Runs.{nodesOf, run}
+use Rattle.search.specs.Runs.{nodesOf, wordRun}
 use Rattle.search.specs.Lookups.{equalities}
 use Rattle.search.specs.Heaps.{thresholds}
 use Rattle.search.specs.Live.{Searchable, node, rankOf, tagFor, homeFor, tagged, node-is, home-is, fits-is, operator-is, tag-is}
@@ -47,7 +47,7 @@ module _ (q : Searchable) where
     theWord = equalityWord m (getD (q .now) m (pos 0))
 
     equality-stretch : Part q (0 + m * 2 ^ 42) (0 + m * 2 ^ 42 + 2 ^ 42) (equal m)
-    unfolding equal run
+    unfolding equal wordRun
     equality-stretch =
         let nodes = nodesOf (region (q .places) 32) (getD (q .lengths) 32 0) in
         let is : ℕ → Bool = λ x. eqb (wordOf (q .high) x) theWord in

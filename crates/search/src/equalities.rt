@@ -4,7 +4,7 @@ ghost use Prim.Native.Nat.{_+_, _<_, _≤_};
 ghost use lib.ListN.{length};
 ghost use Rattle.condition.specs.Measures.{Ranges, nowAt};
 ghost use Rattle.nodes.specs.Order.{Ordered};
-ghost use Rattle.nodes.specs.Holes.{value};
+ghost use Rattle.nodes.specs.Holes.{rankAt};
 ghost use Rattle.rows.specs.Places.{previous};
 ghost use Rattle.rows.specs.Halves.{wordOf};
 ghost use Rattle.walk.specs.Walks.{nodeTrue, walked};
@@ -33,7 +33,7 @@ fn search_measure(
     key: &[i64; 512],
 ) -> Walk
     requires { ⌜ n ≤ length (now row) ⌝ ∗ ⌜ n ≤ 128 ⌝ ∗ ⌜ of < 16 ⌝ ∗ ⌜ Ranges (now coefficients) (now values) (now key) ⌝ }
-    requires { ⌜ Ordered previous (value (wordOf (now high)) (now row)) n ⌝ }
+    requires { ⌜ Ordered previous (rankAt (wordOf (now high)) (now row)) n ⌝ }
     ensures { λ r. ⌜ r ≡ walked (nodeTrue (nowAt (now (coefficients .entry)) (now (values .entry))) (now (atoms .entry)) (now (measure .entry)) (now (operator .entry)) (now (key .entry)))
         (equalities (nowAt (now (coefficients .entry)) (now (values .entry))) (now (high .entry)) (now (row .entry)) n of) ⌝ }
 {
@@ -69,7 +69,7 @@ pub fn search_equalities(
     key: &[i64; 512],
 ) -> Walk
     requires { ⌜ n ≤ length (now row) ⌝ ∗ ⌜ n ≤ 128 ⌝ ∗ ⌜ measures ≤ 16 ⌝ ∗ ⌜ Ranges (now coefficients) (now values) (now key) ⌝ }
-    requires { ⌜ Ordered previous (value (wordOf (now high)) (now row)) n ⌝ }
+    requires { ⌜ Ordered previous (rankAt (wordOf (now high)) (now row)) n ⌝ }
     ensures { λ r. ⌜ r ≡ walked (nodeTrue (nowAt (now (coefficients .entry)) (now (values .entry))) (now (atoms .entry)) (now (measure .entry)) (now (operator .entry)) (now (key .entry)))
         (lists (equalities (nowAt (now (coefficients .entry)) (now (values .entry))) (now (high .entry)) (now (row .entry)) n) measures 0) ⌝ }
 {

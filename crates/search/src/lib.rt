@@ -19,7 +19,7 @@ ghost use Rattle.search.specs.Runs.{nodesOf};
 ghost use Rattle.search.specs.Prepared.{Prepared};
 ghost use Rattle.search.specs.Pairs.{waitersIn};
 ghost use Rattle.search.specs.Indexed.{Indexed};
-ghost use Rattle.search.specs.Answers.{searched, asAnswer};
+ghost use Rattle.search.specs.Answers.{searchAnswer, asAnswer};
 ghost use Rattle.condition.specs.Closing.{closedSlots};
 use crate::counted::counted;
 use crate::equalities::search_equalities;
@@ -169,7 +169,7 @@ pub fn search(
 ) -> Answer
     requires { ⌜ Ranges (now coefficients) (now values) (now key) ⌝ ∗ ⌜ Indexed measures (now atoms) (now measure) (now operator) (now key) (now high) (now low) (now places) (now lengths) ⌝ }
     ensures { λ r. ⌜ ((i : Indexed measures (now (atoms .entry)) (now (measure .entry)) (now (operator .entry)) (now (key .entry)) (now (high .entry)) (now (low .entry)) (now (places .entry)) (now (lengths .entry))) →
-        r ≡ searched (nowAt (now (coefficients .entry)) (now (values .entry))) (waitersIn (closedSlots (i .alternatives) (now (atoms .entry)) (now (measure .entry)) (now (operator .entry)) (now (key .entry))) (i .ticket) (i .entry))) ⌝ }
+        r ≡ searchAnswer (nowAt (now (coefficients .entry)) (now (values .entry))) (waitersIn (closedSlots (i .alternatives) (now (atoms .entry)) (now (measure .entry)) (now (operator .entry)) (now (key .entry))) (i .ticket) (i .entry))) ⌝ }
 {
     answer_of(search_nodes(
         places,

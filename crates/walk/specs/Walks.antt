@@ -20,20 +20,20 @@ use Rattle.walk.specs.declared.Walk.the-variants.{Found, Nobody}
 abbrev pub nodeTrue : List ℤ → List ℕ → List ℕ → List ℕ → List ℤ → ℕ → Bool
 nodeTrue now atoms measure operator key node = alternativeTrue now (alternativeAt atoms measure operator key (node % 128))
 
-abbrev pub told : Option ℕ → ℕ → Walk
-told (some node) count = Found node count
-told none count = Nobody count
+abbrev pub asWalk : Option ℕ → ℕ → Walk
+asWalk (some node) count = Found node count
+asWalk none count = Nobody count
 
 unfoldable pub walked : (ℕ → Bool) → List ℕ → Walk
-walked test nodes = told (first test nodes) (upTo test nodes)
+walked test nodes = asWalk (first test nodes) (upTo test nodes)
 
 -- the same with so many evaluated before: a stretch of a longer walk
 unfoldable pub walkedOn : (ℕ → Bool) → ℕ → List ℕ → Walk
-walkedOn test before nodes = told (first test nodes) (before + upTo test nodes)
+walkedOn test before nodes = asWalk (first test nodes) (before + upTo test nodes)
 
 pub none-before : (test : ℕ → Bool) (nodes : List ℕ) → walkedOn test 0 nodes ≡ walked test nodes
 unfolding walkedOn walked
-none-before test nodes = ap (told (first test nodes)) (none (upTo test nodes))
+none-before test nodes = ap (asWalk (first test nodes)) (none (upTo test nodes))
   where
     none : (k : ℕ) → 0 + k ≡ k
     none k = omega arith
@@ -48,17 +48,17 @@ module _ (test : ℕ → Bool) (nodes : List ℕ) where
     rest = drop (suc i) nodes
 
     one-more : i < length nodes →
-        walkedFrom test nodes i ≡ (let x = getD nodes i 0 in told (if test x then some x else first test rest) (i + suc (if test x then 0 else upTo test rest)))
+        walkedFrom test nodes i ≡ (let x = getD nodes i 0 in asWalk (if test x then some x else first test rest) (i + suc (if test x then 0 else upTo test rest)))
     unfolding walkedOn rest
     one-more h = rw (drop-cons nodes i 0 h) refl
 
     pub walk-more : {w : Walk} {t : Bool} → walkedFrom test nodes i ≡ w → i < length nodes → t ≡ test (getD nodes i 0) → t ≡ false → walkedFrom test nodes (i + 1) ≡ w
     unfolding walkedOn rest
     walk-more e h d f =
-        let s : walkedFrom test nodes i ≡ told (first test rest) (i + suc (upTo test rest)) = rw (sym d ∙ f) at (one-more h) in
+        let s : walkedFrom test nodes i ≡ asWalk (first test rest) (i + suc (upTo test rest)) = rw (sym d ∙ f) at (one-more h) in
         let n : i + 1 ≡ suc i = omega arith in
         let m : suc i + upTo test rest ≡ i + suc (upTo test rest) = omega arith in
-        rw n (ap (told (first test rest)) m ∙ sym s ∙ e)
+        rw n (ap (asWalk (first test rest)) m ∙ sym s ∙ e)
 
     pub walk-found : {w : Walk} {t : Bool} → walkedFrom test nodes i ≡ w → i < length nodes → t ≡ test (getD nodes i 0) → t ≡ true → Found (getD nodes i 0) (i + 1) ≡ w
     walk-found e h d f = sym (rw (sym d ∙ f) at (one-more h)) ∙ e

@@ -14,7 +14,7 @@ use Rattle.rules.specs.Number.{Read, read, refused, pure, after, times, field, 
 use Rattle.rules.specs.Condition.{Given}
 use Rattle.rules.specs.Record.{value, condition, ofKind, event}
 use Rattle.rules.specs.Step.{Event, arrive, admit, assign, wait, leave}
-use Rattle.rules.specs.Laws.Readers.{Sound, sound-field, sound-below, sound-signed}
+use Rattle.rules.specs.Laws.Readers.{SoundReader, sound-field, sound-below, sound-signed}
 use Rattle.fields.specs.Answers.{placeOf}
 use Rattle.wire.specs.Heads.{headAt, kindRead, jobRead, setHead, variableRead, valueRead}
 use Rattle.fields.specs.Places.{at-place}
@@ -53,7 +53,7 @@ module _ (measures : ℕ) (bytes : List ℕ) (at : ℕ) where
   left = drop at bytes
 
   -- what is left after a field, at its place
-  stands-at : {k : ℕ} {P : ℕ → Type 0} {p : List ℕ → Read ℕ} (s : Sound k P p) (from : ℕ) {n : ℕ} {rest : List ℕ} → p (drop from bytes) ≡ read n rest → (rest ≡ drop (placeOf bytes rest) bytes) × (placeOf bytes rest ≤ length bytes)
+  stands-at : {k : ℕ} {P : ℕ → Type 0} {p : List ℕ → Read ℕ} (s : SoundReader k P p) (from : ℕ) {n : ℕ} {rest : List ℕ} → p (drop from bytes) ≡ read n rest → (rest ≡ drop (placeOf bytes rest) bytes) × (placeOf bytes rest ≤ length bytes)
   stands-at s from {n} {rest} d = (at-place bytes from (s .gives (drop from bytes) n rest d .1), omega arith)
 
   abbrev Means : Head → Type 0

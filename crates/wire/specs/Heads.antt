@@ -11,7 +11,7 @@ use lib.Seq.{drop-cons}
 use Rattle.rules.specs.Base.{if_then_else_}
 use Rattle.rules.specs.Limits.{jobs, variables, valueMost, kindMost}
 use Rattle.rules.specs.Number.{Read, read, refused, field, below, signedField}
-use Rattle.rules.specs.Laws.Readers.{Sound, sound-field, sound-below, sound-signed}
+use Rattle.rules.specs.Laws.Readers.{SoundReader, sound-field, sound-below, sound-signed}
 use Rattle.fields.specs.Answers.{placeOf, asNumber, asSigned, refusalIn, signedRefusal}
 use Rattle.fields.specs.Places.{place-after, number-read, number-refused, signed-read, signed-refused}
 use Rattle.fields.specs.declared.number.Number.{Number}
@@ -76,7 +76,7 @@ pub head-none : (bytes : List ℕ) (at : ℕ) → length bytes ≤ at → Nothin
 head-none bytes at h = rw (drop-of-length-le bytes {i = at} h)
 
 module _ (bytes : List ℕ) (at : ℕ) (some-left : at < length bytes) {answer : Number} (from : answer ≡ asNumber bytes (field 3 1 kindMost (drop at bytes))) where
-  kinds : Sound 1 (λ n. (1 ≤ n) × (n ≤ kindMost)) (field 3 1 kindMost)
+  kinds : SoundReader 1 (λ n. (1 ≤ n) × (n ≤ kindMost)) (field 3 1 kindMost)
   kinds = sound-field 3 1 kindMost (omega arith) (omega arith)
 
   not-none : headAt bytes (drop at bytes) ≡ kindRead bytes (field 3 1 kindMost (drop at bytes))

@@ -7,7 +7,7 @@ use native.Mathlib.Numerals.{add-one}
 use native.Mathlib.Omega.{arith}
 use lib.ListN.{length, drop}
 use Rattle.rules.specs.Number.{Read, read, refused, Reader, after, pure, times}
-use Rattle.rules.specs.Laws.Readers.{Sound}
+use Rattle.rules.specs.Laws.Readers.{SoundReader}
 use Rattle.fields.specs.Answers.{placeOf}
 use Rattle.fields.specs.Places.{at-place, place-after}
 use Rattle.wire.specs.declared.place.Place.{Place}
@@ -29,7 +29,7 @@ pub record Told {A S : Type 0} (p : Reader A) (P : A → Type 0) (put : S → A 
   pub within : next ≤ length bytes
   pub slots : s′ ≡ put s what
 
-module _ {A S : Type 0} {least : ℕ} {P : A → Type 0} {p : Reader A} (sound : Sound least P p) {put : S → A → S} {bytes : List ℕ} (at : ℕ) {s : S} {r : Place} {s′ : S} (i : Into put bytes s (p (drop at bytes)) r s′) where
+module _ {A S : Type 0} {least : ℕ} {P : A → Type 0} {p : Reader A} (sound : SoundReader least P p) {put : S → A → S} {bytes : List ℕ} (at : ℕ) {s : S} {r : Place} {s′ : S} (i : Into put bytes s (p (drop at bytes)) r s′) where
   pub told : {next : ℕ} → r ≡ Next next → Told p P put bytes at next s s′
   told {next} e = go (p (drop at bytes)) refl (i .is)
     where
@@ -59,7 +59,7 @@ abbrev pub putAll : {A S : Type 0} → (ℕ → S → A → S) → ℕ → S →
 putAll put slot s [] = s
 putAll put slot s (a ∷ l) = putAll put (suc slot) (put slot s a) l
 
-module _ {A S : Type 0} {least : ℕ} {P : A → Type 0} {p : Reader A} (sound : Sound least P p) (put : ℕ → S → A → S) (bytes : List ℕ) (at slot count : ℕ) where
+module _ {A S : Type 0} {least : ℕ} {P : A → Type 0} {p : Reader A} (sound : SoundReader least P p) (put : ℕ → S → A → S) (bytes : List ℕ) (at slot count : ℕ) where
   pub all-none : {s : S} → count ≡ 0 → (count ≡ 0 → at ≤ length bytes) → Into (putAll put slot) bytes s (times count p (drop at bytes)) (Next at) s
   all-none e h = record { is = rw e (ap Next (sym (place-after bytes at (h e))), refl) }
 

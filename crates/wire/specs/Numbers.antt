@@ -6,7 +6,7 @@ use lib.IntN.{ℤ}
 use lib.ListN.{length, drop, set}
 use lib.Seq.{sets}
 use Rattle.rules.specs.Number.{times, signedField}
-use Rattle.rules.specs.Laws.Readers.{Sound, sound-signed, sound-times}
+use Rattle.rules.specs.Laws.Readers.{SoundReader, sound-signed, sound-times}
 use Rattle.rules.specs.Laws.WellFormed.{Numbers}
 use Rattle.fields.specs.Answers.{asSigned, signedRefusal}
 use Rattle.wire.specs.Into.{Into, Told, putAll, all-none, all-no, all-more}
@@ -23,7 +23,7 @@ putNumber slot out z = set out slot z
 abbrev pub putNumbers : ℕ → List ℤ → List ℤ → List ℤ
 putNumbers = putAll putNumber
 
-pub numbers-sound : (count most : ℕ) → Sound 0 (Numbers count most) (times count (signedField most))
+pub numbers-sound : (count most : ℕ) → SoundReader 0 (Numbers count most) (times count (signedField most))
 numbers-sound count most = sound-times (signedField most) (sound-signed most) count
 
 -- that is what `sets` does

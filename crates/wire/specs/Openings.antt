@@ -11,7 +11,7 @@ use Rattle.rules.specs.Limits.{variables, measuresMost}
 use Rattle.rules.specs.Number.{Read, read, refused, field, times, signedField}
 use Rattle.rules.specs.Record.{coefficient, value, opening}
 use Rattle.rules.specs.Room.{Room, opened}
-use Rattle.rules.specs.Laws.Readers.{Sound, sound-field, sound-times}
+use Rattle.rules.specs.Laws.Readers.{SoundReader, sound-field, sound-times}
 use Rattle.rules.specs.Laws.WellFormed.{sound-coefficient}
 use Rattle.fields.specs.Answers.{placeOf, asNumber}
 use Rattle.wire.specs.Answers.{placeRefusal}
@@ -56,17 +56,17 @@ module _ (bytes : List ℕ) (at : ℕ) where
   X = opening (drop at bytes)
 
   -- what the contract says of the answer and of the lent slots
-  abbrev pub Opens : Number → List ℤ → List ℤ → Type 0
-  Opens r coefficients values = (r ≡ asOpening bytes X) × (coefficients ≡ coefficientsOf X) × (values ≡ valuesOf X)
+  abbrev pub ReadsOpening : Number → List ℤ → List ℤ → Type 0
+  ReadsOpening r coefficients values = (r ≡ asOpening bytes X) × (coefficients ≡ coefficientsOf X) × (values ≡ valuesOf X)
 
-  refused-opens : {k : ℕ} {coefficients values : List ℤ} → X ≡ refused k → coefficients ≡ replicate 128 (pos 0) → values ≡ replicate 8 (pos 0) → Opens (Refused k) coefficients values
+  refused-opens : {k : ℕ} {coefficients values : List ℤ} → X ≡ refused k → coefficients ≡ replicate 128 (pos 0) → values ≡ replicate 8 (pos 0) → ReadsOpening (Refused k) coefficients values
   refused-opens e c v = (rw e, c ∙ rw e, v ∙ rw e)
 
   module _ {answer : Number} (from : answer ≡ asNumber bytes (field 4 1 measuresMost (drop at bytes))) where
-    counts : Sound 1 (λ n. (1 ≤ n) × (n ≤ measuresMost)) (field 4 1 measuresMost)
+    counts : SoundReader 1 (λ n. (1 ≤ n) × (n ≤ measuresMost)) (field 4 1 measuresMost)
     counts = sound-field 4 1 measuresMost (omega arith) (omega arith)
 
-    pub count-refused : {j : ℕ} {coefficients values : List ℤ} → answer ≡ Refused j → coefficients ≡ replicate 128 (pos 0) → values ≡ replicate 8 (pos 0) → Opens answer coefficients values
+    pub count-refused : {j : ℕ} {coefficients values : List ℤ} → answer ≡ Refused j → coefficients ≡ replicate 128 (pos 0) → values ≡ replicate 8 (pos 0) → ReadsOpening answer coefficients values
     count-refused {j} got c v =
         let o = refused-opens {k = j} (rw (number-refused counts bytes at from got)) c v in
         (got ∙ o .0, o .1, o .2)
@@ -98,7 +98,7 @@ module _ (bytes : List ℕ) (at : ℕ) where
         values-refused : {k : ℕ} → times 8 value (drop after bytes) ≡ refused k → X ≡ refused k
         values-refused e = rw (counted, measures-read .1, e)
 
-        all-read : (end : ℕ) (v : List ℤ) → times 8 value (drop after bytes) ≡ read v (drop end bytes) → end ≤ length bytes → Opens (Got count end) (slots 128 l) v
+        all-read : (end : ℕ) (v : List ℤ) → times 8 value (drop after bytes) ≡ read v (drop end bytes) → end ≤ length bytes → ReadsOpening (Got count end) (slots 128 l) v
         all-read end v e h =
             let m = measures-read in
             let n : length (m .0) ≡ count = sound-times (times variables coefficient) (sound-times coefficient sound-coefficient variables) count .gives (drop next bytes) (m .0) (drop after bytes) (m .1) .0 .0 in
@@ -107,7 +107,7 @@ module _ (bytes : List ℕ) (at : ℕ) where
 
       -- ---- as the code has it: zeros are what the slots held before
       module _ {zeros zeros′ : List ℤ} (zero-c : zeros ≡ replicate 128 (pos 0)) (zero-v : zeros′ ≡ replicate 8 (pos 0)) where
-        pub opening-read : {after end : ℕ} {cs vs : List ℤ} → ReadInto bytes next 100 0 (count * 8) after zeros cs → ReadInto bytes after 1_000_000 0 8 end zeros′ vs → Opens (Got count end) cs vs
+        pub opening-read : {after end : ℕ} {cs vs : List ℤ} → ReadInto bytes next 100 0 (count * 8) after zeros cs → ReadInto bytes after 1_000_000 0 8 end zeros′ vs → ReadsOpening (Got count end) cs vs
         opening-read {after} {end} {cs} {vs} c v =
             let o = all-read after (c .reads) end (v .what) (v .reads) (v .within) in
             let few : length (c .what) ≤ 128 = omega (arith, c .good .0, count-within .0) in
@@ -119,13 +119,13 @@ module _ (bytes : List ℕ) (at : ℕ) where
             (o .0, cs-are ∙ o .1, vs-are ∙ o .2)
 
         pub opening-no-values : {after k j : ℕ} {row : Place} {cs vs vs′ cs′ vs″ : List ℤ} → ReadInto bytes next 100 0 (count * 8) after zeros cs → Into (putNumbers 0) bytes vs (times 8 (signedField 1_000_000) (drop after bytes)) row vs′ → row ≡ place.Refused k →
-            j ≡ placeRefusal row → cs′ ≡ replicate 128 (pos 0) → vs″ ≡ replicate 8 (pos 0) → Opens (Refused j) cs′ vs″
+            j ≡ placeRefusal row → cs′ ≡ replicate 128 (pos 0) → vs″ ≡ replicate 8 (pos 0) → ReadsOpening (Refused j) cs′ vs″
         opening-no-values {after} {k} {j} c s e q zc zv =
             let o = refused-opens {k = k} (values-refused after (c .reads) (told-no (numbers-sound 8 1_000_000) after s e)) zc zv in
             (ap Refused (q ∙ ap placeRefusal e) ∙ o .0, o .1, o .2)
 
         pub opening-no-rows : {k j : ℕ} {rows : Place} {cs cs′ : List ℤ} → Into (putNumbers 0) bytes zeros (times (count * 8) (signedField 100) (drop next bytes)) rows cs → rows ≡ place.Refused k →
-            j ≡ placeRefusal rows → cs′ ≡ replicate 128 (pos 0) → Opens (Refused j) cs′ zeros′
+            j ≡ placeRefusal rows → cs′ ≡ replicate 128 (pos 0) → ReadsOpening (Refused j) cs′ zeros′
         opening-no-rows {k} {j} s e q zc =
             let o = refused-opens {k = k} (rows-refused (told-no (numbers-sound (count * 8) 100) next s e)) zc zero-v in
             (ap Refused (q ∙ ap placeRefusal e) ∙ o .0, o .1, o .2)

@@ -12,7 +12,7 @@ use Rattle.rules.specs.Condition.{Given}
 use Rattle.rules.specs.Record.{atom, value, counted, condition}
 use Rattle.rules.specs.Laws.Bounds.{Each}
 use Rattle.rules.specs.Laws.WellFormed.{GivenFits, Parts, sound-atom, sound-counted}
-use Rattle.rules.specs.Laws.Readers.{Sound, sound-field, sound-below, sound-times, read-same, read-refused, refused-same}
+use Rattle.rules.specs.Laws.Readers.{SoundReader, sound-field, sound-below, sound-times, read-same, read-refused, refused-same}
 use Rattle.fields.specs.Answers.{placeOf, asNumber, refusalIn}
 use Rattle.wire.specs.Answers.{placeRefusal}
 use Rattle.wire.specs.Into.{Into, told, told-no, putAll, all-no, all-more}
@@ -89,8 +89,8 @@ abbrev pub slotsOf : Read Body → WaitSlots
 slotsOf (read b rest) = putAlternatives 0 noSlots (b .condition)
 slotsOf (refused k) = noSlots
 
-abbrev pub Waits : List ℕ → Read Body → Number → List ℤ → WaitSlots → Type 0
-Waits bytes x r l s = (r ≡ asWait bytes x) × (l ≡ localsOf x) × (s ≡ slotsOf x)
+abbrev pub ReadsWait : List ℕ → Read Body → Number → List ℤ → WaitSlots → Type 0
+ReadsWait bytes x r l s = (r ≡ asWait bytes x) × (l ≡ localsOf x) × (s ≡ slotsOf x)
 
 -- ---- an atom, as the code reads it
 module _ {A : Type 0} (p : Reader A) (l : List ℕ) where
@@ -116,7 +116,7 @@ module _ (measures : ℕ) (bytes : List ℕ) (at slot : ℕ) {first : Number} (f
   atom-no-measure {j} {k} got e = record { is = rw (number-refused (sound-below measures) bytes at from got) (ap Refused (e ∙ ap refusalIn got)) }
 
   module _ {m next : ℕ} (got : first ≡ number.Got m next) {second : Number} (from₂ : second ≡ asNumber bytes (field 3 1 operatorMost (drop next bytes))) where
-    operators : Sound 1 (λ n. (1 ≤ n) × (n ≤ operatorMost)) (field 3 1 operatorMost)
+    operators : SoundReader 1 (λ n. (1 ≤ n) × (n ≤ operatorMost)) (field 3 1 operatorMost)
     operators = sound-field 3 1 operatorMost (omega arith) (omega arith)
 
     measure-is : ReadTo (sound-below measures) bytes at m next
@@ -152,7 +152,7 @@ module _ (measures : ℕ) (bytes : List ℕ) (at slot : ℕ) {first : Number} (f
             record { is = rw x (ap Next (sym (place-after bytes end (k .within))), λ i. atomSlots (set ms slot m) (set os slot o) (c .slots i) ((k .slots ∙ ap (putNumbers slot ks) (v .2)) i)) }
 
 -- ---- atoms, as the code reads them
-pub atoms-sound : (count measures : ℕ) → Sound 0 (λ l. (length l ≡ count) × Each (GivenFits measures) l) (times count (atom measures))
+pub atoms-sound : (count measures : ℕ) → SoundReader 0 (λ l. (length l ≡ count) × Each (GivenFits measures) l) (times count (atom measures))
 atoms-sound count measures = sound-times (atom measures) (sound-atom measures) count
 
 module _ (measures : ℕ) (bytes : List ℕ) (at slot count : ℕ) {s s₁ : AtomSlots} {one : Place} (first : Into (putAtom slot) bytes s (atom measures (drop at bytes)) one s₁) (some-left : count ≡ 0 → ⊥) where
@@ -168,7 +168,7 @@ atom-within measures bytes at slot i e = told (sound-atom measures) at i e .with
 
 -- ---- alternatives, as the code reads them
 module _ (measures : ℕ) (bytes : List ℕ) (at i count : ℕ) {answer : Number} (from : answer ≡ asNumber bytes (field 4 1 partsMost (drop at bytes))) (some-left : count ≡ 0 → ⊥) where
-  parts : Sound 1 (λ n. (1 ≤ n) × (n ≤ partsMost)) (field 4 1 partsMost)
+  parts : SoundReader 1 (λ n. (1 ≤ n) × (n ≤ partsMost)) (field 4 1 partsMost)
   parts = sound-field 4 1 partsMost (omega arith) (omega arith)
 
   abbrev one-alternative : Reader (List Given)
@@ -201,10 +201,10 @@ module _ (measures : ℕ) (bytes : List ℕ) (at i count : ℕ) {answer : Number
 
 -- ---- the whole, as the code reads it: it cleared the slots first, and clears them after a refusal
 module _ (measures : ℕ) (bytes : List ℕ) (at : ℕ) {zero-l l : List ℤ} {row : Place} (cleared-l : zero-l ≡ noLocals) (locals-in : Into (putNumbers 0) bytes zero-l (times 4 (signedField 1_000_000) (drop at bytes)) row l) where
-  no-wait : {k : ℕ} {l′ : List ℤ} {s′ : WaitSlots} → numbers measures (drop at bytes) ≡ refused k → l′ ≡ noLocals → s′ ≡ noSlots → Waits bytes (numbers measures (drop at bytes)) (number.Refused k) l′ s′
+  no-wait : {k : ℕ} {l′ : List ℤ} {s′ : WaitSlots} → numbers measures (drop at bytes) ≡ refused k → l′ ≡ noLocals → s′ ≡ noSlots → ReadsWait bytes (numbers measures (drop at bytes)) (number.Refused k) l′ s′
   no-wait e p q = (rw e, p ∙ rw e, q ∙ rw e)
 
-  pub wait-no-locals : {j k : ℕ} {l′ : List ℤ} {s′ : WaitSlots} → row ≡ Refused k → j ≡ placeRefusal row → (l′ ≡ noLocals) × (s′ ≡ noSlots) → Waits bytes (numbers measures (drop at bytes)) (number.Refused j) l′ s′
+  pub wait-no-locals : {j k : ℕ} {l′ : List ℤ} {s′ : WaitSlots} → row ≡ Refused k → j ≡ placeRefusal row → (l′ ≡ noLocals) × (s′ ≡ noSlots) → ReadsWait bytes (numbers measures (drop at bytes)) (number.Refused j) l′ s′
   wait-no-locals {j} {k} e q z =
       let w = no-wait {k = k} (rw (told-no (numbers-sound 4 1_000_000) at locals-in e)) (z .0) (z .1) in
       (ap number.Refused (q ∙ ap placeRefusal e) ∙ w .0, w .1, w .2)
@@ -213,10 +213,10 @@ module _ (measures : ℕ) (bytes : List ℕ) (at : ℕ) {zero-l l : List ℤ} {r
     locals-told : ReadInto bytes at 1_000_000 0 4 next zero-l l
     locals-told = told (numbers-sound 4 1_000_000) at locals-in located
 
-    few : Sound 1 (λ n. (1 ≤ n) × (n ≤ partsMost)) (field 4 1 partsMost)
+    few : SoundReader 1 (λ n. (1 ≤ n) × (n ≤ partsMost)) (field 4 1 partsMost)
     few = sound-field 4 1 partsMost (omega arith) (omega arith)
 
-    pub wait-no-count : {j : ℕ} {l′ : List ℤ} {s′ : WaitSlots} → answer ≡ number.Refused j → (l′ ≡ noLocals) × (s′ ≡ noSlots) → Waits bytes (numbers measures (drop at bytes)) answer l′ s′
+    pub wait-no-count : {j : ℕ} {l′ : List ℤ} {s′ : WaitSlots} → answer ≡ number.Refused j → (l′ ≡ noLocals) × (s′ ≡ noSlots) → ReadsWait bytes (numbers measures (drop at bytes)) answer l′ s′
     wait-no-count {j} e z =
         let w = no-wait {k = j} (rw (locals-told .reads, number-refused few bytes next from e)) (z .0) (z .1) in
         (e ∙ w .0, w .1, w .2)
@@ -228,16 +228,16 @@ module _ (measures : ℕ) (bytes : List ℕ) (at : ℕ) {zero-l l : List ℤ} {r
       pub wait-few : (count ≤ 4) × (after₂ ≤ length bytes)
       wait-few = (few .gives (drop next bytes) count (drop after₂ bytes) (counted-told .0) .0 .1, counted-told .1)
 
-      alternatives-sound : Sound 0 (λ g. (length g ≡ count) × Each (Parts (GivenFits measures)) g) (times count (counted (atom measures)))
+      alternatives-sound : SoundReader 0 (λ g. (length g ≡ count) × Each (Parts (GivenFits measures)) g) (times count (counted (atom measures)))
       alternatives-sound = sound-times (counted (atom measures)) (sound-counted (atom measures) (sound-atom measures)) count
 
       module _ {zero-s s : WaitSlots} {rest : Place} (cleared-s : zero-s ≡ noSlots) (rest-in : Into (putAlternatives 0) bytes zero-s (times count (counted (atom measures)) (drop after₂ bytes)) rest s) where
-        pub wait-no-alternatives : {j k : ℕ} {l′ : List ℤ} {s′ : WaitSlots} → rest ≡ Refused k → j ≡ placeRefusal rest → (l′ ≡ noLocals) × (s′ ≡ noSlots) → Waits bytes (numbers measures (drop at bytes)) (number.Refused j) l′ s′
+        pub wait-no-alternatives : {j k : ℕ} {l′ : List ℤ} {s′ : WaitSlots} → rest ≡ Refused k → j ≡ placeRefusal rest → (l′ ≡ noLocals) × (s′ ≡ noSlots) → ReadsWait bytes (numbers measures (drop at bytes)) (number.Refused j) l′ s′
         wait-no-alternatives {j} {k} e q z =
             let w = no-wait {k = k} (rw (locals-told .reads, counted-told .0, told-no alternatives-sound after₂ rest-in e)) (z .0) (z .1) in
             (ap number.Refused (q ∙ ap placeRefusal e) ∙ w .0, w .1, w .2)
 
-        pub wait-read : {end : ℕ} → rest ≡ Next end → Waits bytes (numbers measures (drop at bytes)) (number.Got count end) l s
+        pub wait-read : {end : ℕ} → rest ≡ Next end → ReadsWait bytes (numbers measures (drop at bytes)) (number.Got count end) l s
         wait-read {end} e =
             let g = told alternatives-sound after₂ rest-in e in
             let v = locals-told in

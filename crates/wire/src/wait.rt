@@ -7,7 +7,7 @@ ghost use lib.ListN.{length, drop};
 ghost use Rattle.rules.specs.Number.{times};
 ghost use Rattle.rules.specs.Record.{atom, counted};
 ghost use Rattle.wire.specs.Into.{Into};
-ghost use Rattle.wire.specs.Waits.{atomSlots, putAtom, putAtoms, waitSlots, putAlternatives, noLocals, noSlots, numbers, Waits};
+ghost use Rattle.wire.specs.Waits.{atomSlots, putAtom, putAtoms, waitSlots, putAlternatives, noLocals, noSlots, numbers, ReadsWait};
 use crate::numbers::clear;
 use crate::numbers::clear_bytes;
 use crate::numbers::read_numbers;
@@ -194,7 +194,7 @@ pub fn read_wait(
     at: usize,
     measures: u8,
 ) -> Number
-    ensures { λ r. ⌜ Waits (now (bytes .entry)) (numbers measures (drop at (now (bytes .entry)))) r (now (locals .exit))
+    ensures { λ r. ⌜ ReadsWait (now (bytes .entry)) (numbers measures (drop at (now (bytes .entry)))) r (now (locals .exit))
         (waitSlots (now (counts .exit)) (atomSlots (now (measure .exit)) (now (operator .exit)) (now (coefficients .exit)) (now (constant .exit)))) ⌝ }
 {
     clear_wait(locals, counts, measure, operator, coefficients, constant);

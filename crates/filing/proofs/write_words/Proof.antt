@@ -2,7 +2,7 @@
 use Prim.Native.Nat.{_≤_, _-_, _+_, _*_}
 use borrow.Author.Needs.{needs}
 use native.Mathlib.Omega.{arith}
-use Rattle.condition.specs.Closing.{Put, put-none, put-more, put-all}
+use Rattle.condition.specs.Closing.{StoredUpTo, put-none, put-more, put-all}
 use Rattle.ranks.specs.Words.{lowWord}
 use Rattle.filing.specs.Words.{highAt}
 use Rattle.filing.proofs.write_words.Statement.{statement}
@@ -10,7 +10,7 @@ use Rattle.filing.proofs.write_words.Tie as tie
 
 abbrev Inv-loop : tie.InvT-loop
 Inv-loop high₀ low₀ atoms measure operator key ticket job first i₀ high low i =
-    (i ≤ 4) × Put (λ k. highAt atoms measure operator key (job * 4 + k)) first high₀ high i × Put (λ k. lowWord ticket k) first low₀ low i
+    (i ≤ 4) × StoredUpTo (λ k. highAt atoms measure operator key (job * 4 + k)) first high₀ high i × StoredUpTo (λ k. lowWord ticket k) first low₀ low i
 
 abbrev μ-loop : tie.MeasureT-loop
 μ-loop high₀ low₀ atoms measure operator key ticket job first i₀ high low i = 4 - i

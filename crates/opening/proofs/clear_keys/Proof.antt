@@ -3,14 +3,14 @@ use borrow.Author.Needs.{needs}
 use Prim.Native.Nat.{_-_}
 use lib.IntN.{pos}
 use lib.ListN.{length}
-use Rattle.wire.specs.Clear.{Filled, filled-none, filled-more, filled-all}
+use Rattle.wire.specs.Clear.{FilledWith, filled-none, filled-more, filled-all}
 use Rattle.opening.proofs.clear_keys.Statement.{statement}
 use Rattle.opening.proofs.clear_keys.Tie as tie
 
 ruleset laws = (needs, filled-none, filled-more, filled-all)
 
 abbrev Inv-loop : tie.InvT-loop
-Inv-loop out₀ slot₀ out slot = Filled (pos 0) out₀ out slot
+Inv-loop out₀ slot₀ out slot = FilledWith (pos 0) out₀ out slot
 
 abbrev μ-loop : tie.MeasureT-loop
 μ-loop out₀ slot₀ out slot = length out₀ - slot

@@ -1,7 +1,7 @@
 -- `first_at_least` meets its contract: below a every word is less, from b on none is, and halving brings the two together.
 use borrow.Author.Needs.{needs}
 use Prim.Native.Nat.{_-_}
-use Rattle.nodes.specs.Holes.{value}
+use Rattle.nodes.specs.Holes.{rankAt}
 use Rattle.rows.specs.Halves.{wordOf, Between, between-all, between-right, between-left, between-none}
 use Rattle.rows.proofs.first_at_least.Statement.{statement}
 use Rattle.rows.proofs.first_at_least.Tie as tie
@@ -9,7 +9,7 @@ use Rattle.rows.proofs.first_at_least.Tie as tie
 ruleset laws = (needs, between-all, between-none)
 
 abbrev Inv-loop : tie.InvT-loop
-Inv-loop row high n word a₀ b₀ a b = Between (value (wordOf high) row) word n a b
+Inv-loop row high n word a₀ b₀ a b = Between (rankAt (wordOf high) row) word n a b
 
 abbrev μ-loop : tie.MeasureT-loop
 μ-loop row high n word a₀ b₀ a b = b - a

@@ -68,13 +68,13 @@ pub none-left-changes-nothing : (r : Room) (t : Tally) → (take r [] .result .r
 none-left-changes-nothing r t = (refl, refl, refl)
 
 -- ---- openings
-abbrev pub Opens : List ℕ → Read Room → Type 0
-Opens bytes (read r rest) = Opening r × Took 1 bytes rest
-Opens bytes (refused n) = (1 ≤ n) × (n ≤ 4)
+abbrev pub OpeningAnswered : List ℕ → Read Room → Type 0
+OpeningAnswered bytes (read r rest) = Opening r × Took 1 bytes rest
+OpeningAnswered bytes (refused n) = (1 ≤ n) × (n ≤ 4)
 
-pub every-opening-is-answered : (bytes : List ℕ) → Opens bytes (opening bytes)
+pub every-opening-is-answered : (bytes : List ℕ) → OpeningAnswered bytes (opening bytes)
 every-opening-is-answered bytes = go (opening bytes) refl
   where
-    go : (x : Read Room) → opening bytes ≡ x → Opens bytes x
+    go : (x : Read Room) → opening bytes ≡ x → OpeningAnswered bytes x
     go (read r rest) e = sound-opening .gives bytes r rest e
     go (refused n) e = sound-opening .refuses bytes n e

@@ -11,7 +11,7 @@ use borrow.Author.Tests.{leb-false}
 use Rattle.rules.specs.Room.{Room}
 use Rattle.rules.specs.Step.{Report, accepted, refusal, nothing}
 use Rattle.rules.specs.Tally.{take}
-use Rattle.rules.specs.Listing.{lines, reported, line, text, decimal, _␣_, job, word}
+use Rattle.rules.specs.Listing.{lines, reported, line, text, decimal, _␣_, job, outcomeWord}
 use Rattle.rules.specs.Laws.In.{byBool}
 use Rattle.rules.specs.Laws.Readers.{Took}
 use Rattle.rules.specs.Demands.Answers.{Answers, every-event-is-answered}
@@ -22,7 +22,7 @@ shorter {bytes} t = omega (arith, t .at-least, t .at-most, ap length (t .left), 
 module _ (n before : ℕ) (r q : Room) (rest : List ℕ) where
   same-after : (f g : ℕ → ℕ → Room → List ℕ → List ℕ) (bytes : List ℕ) → ((m b : ℕ) (s : Room) → length rest < length bytes → f m b s rest ≡ g m b s rest) →
       (x : Report) → Answers r bytes q rest x → reported n before r q rest f x ≡ reported n before r q rest g x
-  same-after f g bytes h (accepted o calls count) a = ap (line (decimal n ␣ word o ␣ job calls ␣ decimal count)) (h (suc n) (suc before) q (shorter a))
+  same-after f g bytes h (accepted o calls count) a = ap (line (decimal n ␣ outcomeWord o ␣ job calls ␣ decimal count)) (h (suc n) (suc before) q (shorter a))
   same-after f g bytes h nothing a = refl
   same-after f g bytes h (refusal k) a = ap (line (decimal n ␣ text "refused" ␣ decimal k)) (byBool (leb k 4) (λ t. rw t) (λ u. rw u (h (suc n) before r (taken u (a .1)))))
     where

@@ -21,9 +21,9 @@ use Rattle.rules.specs.Demands.Ranks.{ranks-total}
 use Rattle.rules.specs.Demands.Invariant.{Invariant, step-keeps, opening-has}
 
 -- the room after these byte strings, each given as an event
-abbrev pub after : Room → List (List ℕ) → Room
-after r [] = r
-after r (bytes ∷ more) = after (take r bytes .result .room) more
+abbrev pub roomAfter : Room → List (List ℕ) → Room
+roomAfter r [] = r
+roomAfter r (bytes ∷ more) = roomAfter (take r bytes .result .room) more
 
 -- the room came from an accepted opening and events
 pub record Reached (r : Room) : Type 0 where
@@ -32,7 +32,7 @@ pub record Reached (r : Room) : Type 0 where
   pub rest : List ℕ
   pub opens : opening opening-bytes ≡ read start rest
   pub events : List (List ℕ)
-  pub came : after start events ≡ r
+  pub came : roomAfter start events ≡ r
 
 taken-keeps : (r : Room) (bytes : List ℕ) (x : Read Event) → event (length (r .measures)) bytes ≡ x → Invariant r → Invariant (taken r bytes x .result .room)
 taken-keeps r bytes (read e rest) d h = step-keeps r e (sound-event (length (r .measures)) .gives bytes e rest d .0) h
@@ -42,7 +42,7 @@ pub take-keeps : (r : Room) (bytes : List ℕ) → Invariant r → Invariant (ta
 take-keeps r [] h = h
 take-keeps r (b ∷ bytes) h = taken-keeps r (b ∷ bytes) (event (length (r .measures)) (b ∷ bytes)) refl h
 
-after-keeps : (r : Room) (events : List (List ℕ)) → Invariant r → Invariant (after r events)
+after-keeps : (r : Room) (events : List (List ℕ)) → Invariant r → Invariant (roomAfter r events)
 after-keeps r [] h = h
 after-keeps r (bytes ∷ more) h = after-keeps (take r bytes .result .room) more (take-keeps r bytes h)
 

@@ -27,10 +27,10 @@ pub data Searches (r : Room) : Event → Type 0 where
   at-leave : {j : ℕ} → standing r j ≡ inside → Searches r (leave j)
 
 -- the job called and the count that an event reports
-abbrev pub Reports : Room → Event → Option ℕ → ℕ → Type 0
-Reports r e j n = (calledIn (step r e .report) ≡ j) × (countIn (step r e .report) ≡ n)
+abbrev pub ReportsSearch : Room → Event → Option ℕ → ℕ → Type 0
+ReportsSearch r e j n = (calledIn (step r e .report) ≡ j) × (countIn (step r e .report) ≡ n)
 
-pub search-reports : {r : Room} {e : Event} → Searches r e → Reports r e (jobOf (foundIn r)) (evaluated (now r) (waitersOf r))
+pub search-reports : {r : Room} {e : Event} → Searches r e → ReportsSearch r e (jobOf (foundIn r)) (evaluated (now r) (waitersOf r))
 search-reports (at-admit s o f) = (rw (s, o, f), rw (s, o, f))
 search-reports {r} (at-wait s f l) = (rw (s, f, lt-leb tickets (r .nextTicket) l), rw (s, f, lt-leb tickets (r .nextTicket) l))
 search-reports (at-leave s) = (rw s, rw s)
@@ -50,7 +50,7 @@ move-quiet (moves.goes-on e h) no-search = (refl, refl)
 move-quiet (moves.begins-to-wait e h l) no-search = absurd (no-search (at-wait e h l))
 move-quiet (moves.leaves e) no-search = absurd (no-search (at-leave e))
 
-pub no-search-reports : {r : Room} {e : Event} → (Searches r e → ⊥) → Reports r e none 0
+pub no-search-reports : {r : Room} {e : Event} → (Searches r e → ⊥) → ReportsSearch r e none 0
 no-search-reports {r} {e} = move-quiet (moves.step-moves r e)
 
 -- ---- called only if true, and nobody exactly if none is

@@ -26,9 +26,9 @@ use Rattle.rules.specs.Laws.Rearranged.{Rearranged, back, re-in, re-coun
 use Rattle.rules.specs.Demands.Calls.{isTrue, found-true}
 
 -- ---- the statement's words
-abbrev pub Ordered : List Pair → Type 0
-Ordered [] = Unit {0}
-Ordered (p ∷ l) = ((q : Pair) → In q l → before (p .rank) (q .rank) ≡ true) × Ordered l
+abbrev pub InRankOrder : List Pair → Type 0
+InRankOrder [] = Unit {0}
+InRankOrder (p ∷ l) = ((q : Pair) → In q l → before (p .rank) (q .rank) ≡ true) × InRankOrder l
 
 -- how many there are up to the first that passes, or all if none does
 abbrev pub upTo : {A : Type 0} → (A → Bool) → List A → ℕ
@@ -36,30 +36,30 @@ upTo p [] = 0
 upTo p (a ∷ l) = suc (if p a then 0 else upTo p l)
 
 -- ---- in a list in order
-pub ordered-once : (l : List Pair) → Ordered l → Once l
+pub ordered-once : (l : List Pair) → InRankOrder l → Once l
 ordered-once [] o = tt
 ordered-once (p ∷ l) o = (λ h. true-not-false (o .0 p h) (before-irrefl (p .rank)), ordered-once l (o .1))
 
-first-least : (p : Pair → Bool) (l : List Pair) → Ordered l → (n q : Pair) → first p l ≡ some n → In q l → p q ≡ true → Not q n
+first-least : (p : Pair → Bool) (l : List Pair) → InRankOrder l → (n q : Pair) → first p l ≡ some n → In q l → p q ≡ true → Not q n
 first-least p [] o n q e h t = absurd h
 first-least p (x ∷ l) o n q e (inl d) t = not-cast q (rw (sym (ap p d) ∙ t) at e) (not-self q x d)
 first-least p (x ∷ l) o n q e (inr i) t = byBool (p x) (λ u. not-cast q (rw u at e) (before-asym (x .rank) (q .rank) (o .0 q i))) (λ f. first-least p l (o .1) n q (rw f at e) i t)
 
-ordered-same : (l : List Pair) → Ordered l → (p q : Pair) → In p l → In q l → Not p q → Not q p → p ≡ q
+ordered-same : (l : List Pair) → InRankOrder l → (p q : Pair) → In p l → In q l → Not p q → Not q p → p ≡ q
 ordered-same [] o p q i j h g = absurd i
 ordered-same (x ∷ l) o p q (inl d) (inl e) h g = d ∙ sym e
 ordered-same (x ∷ l) o p q (inl d) (inr j) h g = true-not-false (ap (λ (z : Pair). before (z .rank) (q .rank)) d ∙ o .0 q j) h
 ordered-same (x ∷ l) o p q (inr i) (inl e) h g = true-not-false (ap (λ (z : Pair). before (z .rank) (p .rank)) e ∙ o .0 p i) g
 ordered-same (x ∷ l) o p q (inr i) (inr j) h g = ordered-same l (o .1) p q i j h g
 
-hit : (x : Pair) (l : List Pair) → Ordered (x ∷ l) → length (those (notAfter (some x)) (x ∷ l)) ≡ 1
+hit : (x : Pair) (l : List Pair) → InRankOrder (x ∷ l) → length (those (notAfter (some x)) (x ∷ l)) ≡ 1
 hit x l s = rw (before-irrefl (x .rank)) (ap (λ (m : List Pair). suc (length m)) (those-none (notAfter (some x)) l (λ q i. ap not (s .0 q i))))
 
-miss : (p : Pair → Bool) (x : Pair) (l : List Pair) → Ordered (x ∷ l) → (o : Option Pair) → first p l ≡ o → notAfter o x ≡ true
+miss : (p : Pair → Bool) (x : Pair) (l : List Pair) → InRankOrder (x ∷ l) → (o : Option Pair) → first p l ≡ o → notAfter o x ≡ true
 miss p x l s none e = refl
 miss p x l s (some n) e = ap not (before-asym (x .rank) (n .rank) (s .0 n (first-in p l n e)))
 
-up-count : (p : Pair → Bool) (l : List Pair) → Ordered l → (o : Option Pair) → first p l ≡ o → length (those (notAfter o) l) ≡ upTo p l
+up-count : (p : Pair → Bool) (l : List Pair) → InRankOrder l → (o : Option Pair) → first p l ≡ o → length (those (notAfter o) l) ≡ upTo p l
 up-count p [] s o e = refl
 up-count p (x ∷ l) s o e = byBool (p x)
     (λ t. let q : some x ≡ o = rw t at e in ap (λ (z : Option Pair). length (those (notAfter z) (x ∷ l))) (sym q) ∙ hit x l s ∙ rw t)
@@ -99,7 +99,7 @@ module _ (now : List ℤ) (ws : List Waiter) where
   among : (p : Pair) → In p (pairs (oldest ws)) → In p (pairs ws)
   among p i = let g = in-gather of p (oldest ws) i in gather-in of (g .0) p ws (in-those (λ v. not (follows ws v)) ws (g .1) .0) (g .2)
 
-  module _ (ns : List Pair) (ordered : Ordered ns) (holding : Rearranged (those (λ p. tagHolds now (p .alternative)) (pairs (oldest ws))) ns) where
+  module _ (ns : List Pair) (ordered : InRankOrder ns) (holding : Rearranged (those (λ p. tagHolds now (p .alternative)) (pairs (oldest ws))) ns) where
     listed : (p : Pair) → In p (pairs (oldest ws)) → isTrue now p ≡ true → In p ns
     listed p i t = re-in p holding (those-in (λ q. tagHolds now (q .alternative)) (pairs (oldest ws)) i (true-tag now (p .alternative) t))
 

@@ -21,7 +21,7 @@ pub record Took (least : ℕ) (bytes rest : List ℕ) : Type 0 where
   pub at-most : count ≤ length bytes
   pub left : rest ≡ drop count bytes
 
-pub record Sound {A : Type 0} (least : ℕ) (P : A → Type 0) (p : Reader A) : Type 0 where
+pub record SoundReader {A : Type 0} (least : ℕ) (P : A → Type 0) (p : Reader A) : Type 0 where
   pub gives : (bytes : List ℕ) (a : A) (rest : List ℕ) → p bytes ≡ read a rest → P a × Took least bytes rest
   pub refuses : (bytes : List ℕ) (n : ℕ) → p bytes ≡ refused n → (1 ≤ n) × (n ≤ 4)
 
@@ -53,27 +53,27 @@ took-less : {k m : ℕ} {bytes rest : List ℕ} → k ≤ m → Took m bytes res
 took-less l t = record { count = t .count; at-least = omega (arith, t .at-least); at-most = t .at-most; left = t .left }
 
 module _ {A : Type 0} {P : A → Type 0} where
-  pub sound-pure : (a : A) → P a → Sound 0 P (pure a)
+  pub sound-pure : (a : A) → P a → SoundReader 0 P (pure a)
   sound-pure a h = record {
     gives = λ bytes b rest e. let s = read-same e in (subst P (s .0) h, took-none bytes rest (s .1));
     refuses = λ bytes n e. read-refused e;
   }
 
-  pub sound-only : (t : Bool) (n : ℕ) (a : A) → 1 ≤ n → n ≤ 4 → (t ≡ true → P a) → Sound 0 P (only t n a)
+  pub sound-only : (t : Bool) (n : ℕ) (a : A) → 1 ≤ n → n ≤ 4 → (t ≡ true → P a) → SoundReader 0 P (only t n a)
   sound-only true n a l h f = sound-pure a (f refl)
   sound-only false n a l h f = record {
     gives = λ bytes b rest e. read-refused (sym e);
     refuses = λ bytes m e. let s = refused-same e in (omega arith, omega arith);
   }
 
-  pub sound-less : {Q : A → Type 0} {k m : ℕ} {p : Reader A} → k ≤ m → ((a : A) → P a → Q a) → Sound m P p → Sound k Q p
+  pub sound-less : {Q : A → Type 0} {k m : ℕ} {p : Reader A} → k ≤ m → ((a : A) → P a → Q a) → SoundReader m P p → SoundReader k Q p
   sound-less l f s = record {
     gives = λ bytes a rest e. let g = s .gives bytes a rest e in (f a (g .0), took-less l (g .1));
     refuses = s .refuses;
   }
 
-module _ {A B : Type 0} {P : A → Type 0} {Q : B → Type 0} {k m : ℕ} (p : Reader A) (f : A → Reader B) (s : Sound k P p) (t : (a : A) → P a → Sound m Q (f a)) where
-  pub sound-then : Sound (k + m) Q (p >>= f)
+module _ {A B : Type 0} {P : A → Type 0} {Q : B → Type 0} {k m : ℕ} (p : Reader A) (f : A → Reader B) (s : SoundReader k P p) (t : (a : A) → P a → SoundReader m Q (f a)) where
+  pub sound-then : SoundReader (k + m) Q (p >>= f)
   sound-then = record { gives = λ bytes. gives-from bytes (p bytes) refl; refuses = λ bytes. refuses-from bytes (p bytes) refl }
     where
       gives-from : (bytes : List ℕ) (x : Read A) → p bytes ≡ x → (b : B) (rest : List ℕ) → after x f ≡ read b rest → Q b × Took (k + m) bytes rest
@@ -87,7 +87,7 @@ module _ {A B : Type 0} {P : A → Type 0} {Q : B → Type 0} {k m : ℕ} (p : R
       refuses-from bytes (read a mid) d n e = t a (s .gives bytes a mid d .0) .refuses mid n e
       refuses-from bytes (refused j) d n e = s .refuses bytes n (d ∙ ap refused (refused-same e))
 
-pub sound-times : {A : Type 0} {P : A → Type 0} {k : ℕ} (p : Reader A) → Sound k P p → (n : ℕ) → Sound 0 (λ l. (length l ≡ n) × Each P l) (times n p)
+pub sound-times : {A : Type 0} {P : A → Type 0} {k : ℕ} (p : Reader A) → SoundReader k P p → (n : ℕ) → SoundReader 0 (λ l. (length l ≡ n) × Each P l) (times n p)
 sound-times p s zero = sound-pure [] (refl, tt)
 sound-times p s (suc n) = sound-less (omega arith) (λ a h. h) (sound-then p _ s (λ a h. sound-then (times n p) _ (sound-times p s n) (λ l i. sound-pure (a ∷ l) (ap suc (i .0), (h, i .1)))))
 
@@ -95,7 +95,7 @@ sound-times p s (suc n) = sound-less (omega arith) (λ a h. h) (sound-then p _ s
 abbrev Any : ℕ → Type 0
 Any n = Unit {0}
 
--- what `Sound` says of one answer to these bytes
+-- what `SoundReader` says of one answer to these bytes
 record Fine (bytes : List ℕ) (x : Read ℕ) : Type 0 where
   took : (n : ℕ) (rest : List ℕ) → x ≡ read n rest → Took 1 bytes rest
   refusal : (n : ℕ) → x ≡ refused n → (1 ≤ n) × (n ≤ 4)
@@ -123,19 +123,19 @@ fine-groups : (bytes : List ℕ) (place : ℕ) → Fine bytes (groups place byte
 fine-groups [] place = fine-refused [] 1 (omega arith) (omega arith)
 fine-groups (b ∷ bytes) place = fine-group b bytes (badGroup place b) (ltb b 128) (groups (suc place) bytes) (fine-groups bytes (suc place))
 
-pub sound-number : Sound 1 Any number
+pub sound-number : SoundReader 1 Any number
 sound-number = record {
   gives = λ bytes n rest e. (tt, fine-groups bytes 1 .took n rest e);
   refuses = λ bytes n e. fine-groups bytes 1 .refusal n e;
 }
 
 -- ---- fields
-pub sound-field : (refusal low high : ℕ) → 1 ≤ refusal → refusal ≤ 4 → Sound 1 (λ n. (low ≤ n) × (n ≤ high)) (field refusal low high)
+pub sound-field : (refusal low high : ℕ) → 1 ≤ refusal → refusal ≤ 4 → SoundReader 1 (λ n. (low ≤ n) × (n ≤ high)) (field refusal low high)
 sound-field refusal low high l h = sound-then number _ sound-number (λ n _. sound-only (leb low n && leb n high) refusal n l h
     (λ e. let b = both (leb low n) (leb n high) e in (leb-true low n (b .0), leb-true n high (b .1))))
 
-pub sound-below : (bound : ℕ) → Sound 1 (λ n. n < bound) (below bound)
+pub sound-below : (bound : ℕ) → SoundReader 1 (λ n. n < bound) (below bound)
 sound-below bound = sound-then number _ sound-number (λ n _. sound-only (ltb n bound) 4 n (omega arith) (omega arith) (λ e. ltb-true n bound e))
 
-pub sound-signed : (most : ℕ) → Sound 1 (Within most) (signedField most)
+pub sound-signed : (most : ℕ) → SoundReader 1 (Within most) (signedField most)
 sound-signed most = sound-then number _ sound-number (λ n _. sound-only (leb (natAbs (signed n)) most) 4 (signed n) (omega arith) (omega arith) (λ e. record { abs = leb-true (natAbs (signed n)) most e }))

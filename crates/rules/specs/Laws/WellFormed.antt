@@ -14,7 +14,7 @@ use Rattle.rules.specs.Step.{Event, arrive, admit, assign, wait, leave}
 use Rattle.rules.specs.Record.{value, coefficient, counted, opening, atom, condition, ofKind, event}
 use Rattle.rules.specs.Base.{if_then_else_}
 use Rattle.rules.specs.Laws.Bounds.{Within, Each, in-add, within-more, products-within}
-use Rattle.rules.specs.Laws.Readers.{Sound, sound-pure, sound-less, sound-then, sound-times, sound-field, sound-below, sound-signed}
+use Rattle.rules.specs.Laws.Readers.{SoundReader, sound-pure, sound-less, sound-then, sound-times, sound-field, sound-below, sound-signed}
 use lib.Dec.{eqb}
 use mathlib.Core.Bool.{Bool, true, false}
 
@@ -72,36 +72,36 @@ closure-fits n l g h e = parts-map (Parts (GivenFits n)) (Parts (AtomFits n)) (m
     one a f = record { measure = f .measure; operator = f .operator; key = key-fits l a h (f .coefficients) (f .constant) }
 
 -- ---- so do the readers
-pub sound-counted : {A : Type 0} {P : A → Type 0} {k : ℕ} (p : Reader A) → Sound k P p → Sound 1 (Parts P) (counted p)
+pub sound-counted : {A : Type 0} {P : A → Type 0} {k : ℕ} (p : Reader A) → SoundReader k P p → SoundReader 1 (Parts P) (counted p)
 sound-counted p s = sound-then {m = 0} (field 4 1 partsMost) _ (sound-field 4 1 partsMost (omega arith) (omega arith)) (λ n h. sound-less (omega arith) (λ l e. ((omega (arith, h .0, e .0), omega (arith, h .1, e .0)), e .1)) (sound-times p s n))
 
-pub sound-value : Sound 1 (Within valueMost) value
+pub sound-value : SoundReader 1 (Within valueMost) value
 sound-value = sound-signed valueMost
 
-pub sound-coefficient : Sound 1 (Within coefficientMost) coefficient
+pub sound-coefficient : SoundReader 1 (Within coefficientMost) coefficient
 sound-coefficient = sound-signed coefficientMost
 
 module _ (n : ℕ) where
-  pub sound-atom : Sound 3 (GivenFits n) (atom n)
+  pub sound-atom : SoundReader 3 (GivenFits n) (atom n)
   sound-atom = sound-then (below n) _ (sound-below n) (λ m f. sound-then (field 3 1 operatorMost) _ (sound-field 3 1 operatorMost (omega arith) (omega arith))
       (λ o g. sound-then (times locals coefficient) _ (sound-times coefficient sound-coefficient locals) (λ c h. sound-then value _ sound-value
       (λ k i. sound-pure _ (record { measure = f; operator = g; coefficients = h; constant = i })))))
 
-  pub sound-condition : Sound 1 (Parts (Parts (GivenFits n))) (condition n)
+  pub sound-condition : SoundReader 1 (Parts (Parts (GivenFits n))) (condition n)
   sound-condition = sound-counted (counted (atom n)) (sound-counted (atom n) sound-atom)
 
-  sound-if : {A : Type 0} {P : A → Type 0} {k : ℕ} (t : Bool) (p q : Reader A) → Sound k P p → Sound k P q → Sound k P (if t then p else q)
+  sound-if : {A : Type 0} {P : A → Type 0} {k : ℕ} (t : Bool) (p q : Reader A) → SoundReader k P p → SoundReader k P q → SoundReader k P (if t then p else q)
   sound-if true p q s u = s
   sound-if false p q s u = u
 
-  sound-kind : (kind j : ℕ) → j < jobs → Sound 0 (EventFits n) (ofKind n kind j)
+  sound-kind : (kind j : ℕ) → j < jobs → SoundReader 0 (EventFits n) (ofKind n kind j)
   sound-kind kind j h = sound-if (eqb kind 1) _ _ (sound-pure (arrive j) h)
       (sound-if (eqb kind 2) _ _ (sound-pure (admit j) h)
       (sound-if (eqb kind 3) _ _ (sound-less (omega arith) (λ a e. e) (sound-then (below variables) _ (sound-below variables) (λ v f. sound-then value _ sound-value (λ x g. sound-pure (assign j v x) (h, f, g)))))
       (sound-if (eqb kind 4) _ _ (sound-less (omega arith) (λ a e. e) (sound-then (times locals value) _ (sound-times value sound-value locals) (λ l f. sound-then (condition n) _ sound-condition (λ g i. sound-pure (wait j l g) (h, f, i)))))
       (sound-pure (leave j) h))))
 
-  pub sound-event : Sound 2 (EventFits n) (event n)
+  pub sound-event : SoundReader 2 (EventFits n) (event n)
   sound-event = sound-then (field 3 1 kindMost) _ (sound-field 3 1 kindMost (omega arith) (omega arith)) (λ kind f. sound-then (below jobs) _ (sound-below jobs) (λ j h. sound-kind kind j h))
 
 -- an accepted opening's numbers
@@ -113,7 +113,7 @@ pub record Opening (r : Room) : Type 0 where
   pub shared : Numbers variables valueMost values
   pub is : r ≡ opened measures values
 
-pub sound-opening : Sound 1 Opening opening
+pub sound-opening : SoundReader 1 Opening opening
 sound-opening = sound-then (field 4 1 measuresMost) _ (sound-field 4 1 measuresMost (omega arith) (omega arith)) (λ n f.
     sound-then (times n (times variables coefficient)) _ (sound-times (times variables coefficient) (sound-times coefficient sound-coefficient variables) n) (λ m g.
     sound-then (times variables value) _ (sound-times value sound-value variables) (λ v h.

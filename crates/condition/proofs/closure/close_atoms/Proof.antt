@@ -5,15 +5,15 @@ use borrow.Author.Needs.{needs}
 use native.Mathlib.Omega.{arith}
 use lib.ListN.{getD}
 use Rattle.integers.specs.Machine.{back}
-use Rattle.condition.specs.Closing.{keyAt, Put, put-none, put-more, put-all}
+use Rattle.condition.specs.Closing.{keyAt, StoredUpTo, put-none, put-more, put-all}
 use Rattle.condition.proofs.closure.close_atoms.Statement.{statement}
 use Rattle.condition.proofs.closure.close_atoms.Tie as tie
 
 abbrev Inv-loop : tie.InvT-loop
 Inv-loop measure₀ operator₀ key₀ given-measure given-operator coefficients constant locals job first i₀ measure operator key i =
-    (i ≤ 16) × Put (λ k. getD given-measure k 0) first measure₀ measure i
-    × Put (λ k. getD given-operator k 0) first operator₀ operator i
-    × Put (keyAt coefficients locals constant) first key₀ key i
+    (i ≤ 16) × StoredUpTo (λ k. getD given-measure k 0) first measure₀ measure i
+    × StoredUpTo (λ k. getD given-operator k 0) first operator₀ operator i
+    × StoredUpTo (keyAt coefficients locals constant) first key₀ key i
 
 abbrev μ-loop : tie.MeasureT-loop
 μ-loop measure₀ operator₀ key₀ given-measure given-operator coefficients constant locals job first i₀ measure operator key i = 16 - i

@@ -4,12 +4,12 @@ use Prim.Native.Nat.{_≤_, _-_, _*_}
 use borrow.Author.Needs.{needs}
 use native.Mathlib.Omega.{arith}
 use lib.ListN.{getD}
-use Rattle.condition.specs.Closing.{Put, put-none, put-more, put-all}
+use Rattle.condition.specs.Closing.{StoredUpTo, put-none, put-more, put-all}
 use Rattle.condition.proofs.closure.close_counts.Statement.{statement}
 use Rattle.condition.proofs.closure.close_counts.Tie as tie
 
 abbrev Inv-loop : tie.InvT-loop
-Inv-loop atoms₀ counts job first i₀ atoms i = (i ≤ 4) × Put (λ k. getD counts k 0) first atoms₀ atoms i
+Inv-loop atoms₀ counts job first i₀ atoms i = (i ≤ 4) × StoredUpTo (λ k. getD counts k 0) first atoms₀ atoms i
 
 abbrev μ-loop : tie.MeasureT-loop
 μ-loop atoms₀ counts job first i₀ atoms i = 4 - i

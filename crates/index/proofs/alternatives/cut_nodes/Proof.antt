@@ -6,7 +6,7 @@ use native.Mathlib.Omega.{arith}
 use lib.ListN.{getD, length}
 use Rattle.nodes.specs.Ranks.{rank}
 use Rattle.index.specs.Mine.{mine}
-use Rattle.index.specs.Nodes.{homeOf, Taken}
+use Rattle.index.specs.Nodes.{homeOf, TakenOut}
 use Rattle.index.specs.Loops.{cut-none, cut-next, cut-most, cut-held, home-small}
 use Rattle.index.proofs.alternatives.cut_nodes.Statement.{statement}
 use Rattle.index.proofs.alternatives.cut_nodes.Tie as tie
@@ -14,7 +14,7 @@ use Rattle.index.proofs.alternatives.cut_nodes.Tie as tie
 abbrev Inv-loop : tie.InvT-loop
 Inv-loop places₀ lengths₀ high low alternatives atoms measure operator job count first i₀ places lengths i =
     (i ≤ count) × (length places ≡ 4352) × (length lengths ≡ 34) × ((h : ℕ) → h < 34 → getD lengths h 0 ≤ 128)
-    × Taken (rank high low) (homeOf atoms measure operator) (mine job i) places₀ lengths₀ places lengths
+    × TakenOut (rank high low) (homeOf atoms measure operator) (mine job i) places₀ lengths₀ places lengths
 
 abbrev μ-loop : tie.MeasureT-loop
 μ-loop places₀ lengths₀ high low alternatives atoms measure operator job count first i₀ places lengths i = count - i

@@ -8,13 +8,13 @@ use Rattle.condition.specs.Closing.{closedSlots}
 use Rattle.room.specs.Arrays.{arrays}
 use Rattle.listing.specs.Output.{output}
 use Rattle.listing.specs.Turns.{linesFrom}
-use Rattle.listing.specs.Runs.{Run, run-starts, accepted-less, run-accepts, refused-less, run-refuses, run-stops, run-ends}
+use Rattle.listing.specs.Runs.{Running, run-starts, accepted-less, run-accepts, refused-less, run-refuses, run-stops, run-ends}
 use Rattle.listing.proofs.events.write_events.Statement.{statement}
 use Rattle.listing.proofs.events.write_events.Tie as tie
 
 abbrev Inv-loop : tie.InvT-loop
 Inv-loop out₀ values₀ standing₀ ticket₀ alternatives₀ atoms₀ measure₀ operator₀ key₀ entry₀ high₀ low₀ places₀ lengths₀ next-ticket₀ coefficients measures input from at place₀ next₀ number₀ before₀ out values standing ticket alternatives atoms measure operator key entry high low places lengths next-ticket place next number before =
-    Run (output out₀ next₀) (linesFrom input place₀ number₀ before₀ (arrays coefficients values₀ standing₀ ticket₀ (closedSlots alternatives₀ atoms₀ measure₀ operator₀ key₀) entry₀ high₀ low₀ places₀ lengths₀ measures next-ticket₀))
+    Running (output out₀ next₀) (linesFrom input place₀ number₀ before₀ (arrays coefficients values₀ standing₀ ticket₀ (closedSlots alternatives₀ atoms₀ measure₀ operator₀ key₀) entry₀ high₀ low₀ places₀ lengths₀ measures next-ticket₀))
     (output out next) input place number before (arrays coefficients values standing ticket (closedSlots alternatives atoms measure operator key) entry high low places lengths measures next-ticket) ×
     (length out ≡ length out₀) × (length places ≡ length places₀) × (length lengths ≡ length lengths₀)
 

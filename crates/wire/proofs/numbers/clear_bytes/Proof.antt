@@ -2,14 +2,14 @@
 use borrow.Author.Needs.{needs}
 use Prim.Native.Nat.{_-_}
 use lib.ListN.{length}
-use Rattle.wire.specs.Clear.{Filled, filled-none, filled-more, filled-all}
+use Rattle.wire.specs.Clear.{FilledWith, filled-none, filled-more, filled-all}
 use Rattle.wire.proofs.numbers.clear_bytes.Statement.{statement}
 use Rattle.wire.proofs.numbers.clear_bytes.Tie as tie
 
 ruleset laws = (needs, filled-none, filled-more, filled-all)
 
 abbrev Inv-loop : tie.InvT-loop
-Inv-loop out₀ i₀ out i = Filled 0 out₀ out i
+Inv-loop out₀ i₀ out i = FilledWith 0 out₀ out i
 
 abbrev μ-loop : tie.MeasureT-loop
 μ-loop out₀ i₀ out i = length out₀ - i
