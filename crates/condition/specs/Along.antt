@@ -5,7 +5,7 @@ use Prim.Native.Nat.{ℕ, zero, suc, _+_, _-_, _<_, _≤_}
 use native.Mathlib.Nat.{sub-zero, add-zero}
 use native.Mathlib.Omega.{arith}
 use Rattle.rules.specs.Base.{if_then_else_, all, any, each}
-use Rattle.condition.specs.Closed.{from}
+use Rattle.condition.specs.From.{from}
 
 left-one : (n i : ℕ) → i < n → n - i ≡ suc (n - (i + 1))
 left-one n i h = omega arith

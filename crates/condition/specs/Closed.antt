@@ -1,15 +1,11 @@
 -- Closed conditions in lent arrays. A job has four nodes, one for each alternative it may have, and a node four slots, one for each atom:
 -- alternative i of job j is node 4 * j + i, and its atom k stands in slot 4 * (4 * j + i) + k.
-use mathlib.Core.List.{List, [], _∷_}
-use Prim.Native.Nat.{ℕ, zero, suc, _*_, min}
+use mathlib.Core.List.{List}
+use Prim.Native.Nat.{ℕ, _*_, min}
 use lib.IntN.{ℤ, pos}
 use lib.ListN.{getD}
 use Rattle.rules.specs.Condition.{Atom, Condition}
-
--- what stands in so many places from one on
-abbrev pub from : {A : Type 0} → (ℕ → A) → ℕ → ℕ → List A
-from f zero place = []
-from f (suc n) place = f place ∷ from f n (suc place)
+use Rattle.condition.specs.From.{from}
 
 abbrev pub atomAt : List ℕ → List ℕ → List ℤ → ℕ → Atom
 atomAt measure operator key slot = record { measure = getD measure slot 0; operator = getD operator slot 0; key = getD key slot (pos 0) }

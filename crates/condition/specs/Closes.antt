@@ -7,12 +7,14 @@ use native.Mathlib.Nat.{add-zero, suc-mul, mul-le-mul, le-refl}
 use native.Mathlib.Omega.{arith}
 use native.Mathlib.Decide.{decLt}
 use lib.IntN.{ℤ, pos, _+ℤ_, _*ℤ_}
-use lib.ListN.{getD, set, length, length-set}
+use lib.ListN.{getD, length}
 use lib.Seq.{sets, getD-set-same, getD-set-other}
 use Rattle.rules.specs.Condition.{Given, Atom, Condition, products, close, closure}
 use Rattle.integers.specs.Sums.{sum, sum-front}
-use Rattle.condition.specs.Closed.{from, atomAt, alternativeAt, conditionAt}
-use Rattle.condition.specs.Closing.{keyAt, from-many, ClosedSlots, GivenSlots, putClosed}
+use Rattle.condition.specs.Closed.{atomAt, alternativeAt, conditionAt}
+use Rattle.condition.specs.From.{from, next-place, from-many, from-map, from-same}
+use Rattle.condition.specs.StoredFrom.{stored-before, stored-after, stored-in}
+use Rattle.condition.specs.Closing.{keyAt, ClosedSlots, GivenSlots, putClosed}
 
 -- ---- a Wait's condition, as it stands in its slots
 abbrev pub givenAt : GivenSlots → ℕ → Given
@@ -28,36 +30,6 @@ givenAlternative g i = from (givenAt g) (min (getD (g .counts) i 0) 4) (i * 4)
 
 abbrev pub givenCondition : GivenSlots → List (List Given)
 givenCondition g = from (givenAlternative g) (min (g .count) 4) 0
-
--- ---- along places
-next-place : (p k : ℕ) → suc p + k ≡ p + suc k
-next-place p k = omega arith
-
-pub from-map : {A B : Type 0} (h : A → B) (f : ℕ → B) (g : ℕ → A) (n p q : ℕ) → ((k : ℕ) → k < n → f (p + k) ≡ h (g (q + k))) → from f n p ≡ map h (from g n q)
-from-map h f g zero p q e = refl
-from-map h f g (suc n) p q e =
-    let first : f p ≡ h (g q) = ap f (sym (add-zero p)) ∙ e 0 (omega arith) ∙ ap (λ k. h (g k)) (add-zero q) in
-    λ i. first i ∷ from-map h f g n (suc p) (suc q) (λ k l. ap f (next-place p k) ∙ e (suc k) (omega arith) ∙ ap (λ m. h (g m)) (sym (next-place q k))) i
-
--- what was stored from p on
-module _ {A : Type 0} (d : A) where
-  pub stored-before : (l out : List A) (p k : ℕ) → k < p → getD (sets out p l) k d ≡ getD out k d
-  stored-before [] out p k h = refl
-  stored-before (a ∷ l) out p k h = stored-before l (set out p a) (suc p) k (omega arith) ∙ getD-set-other out p k a d (λ e. omega (arith, e))
-
-  pub stored-after : (l out : List A) (p k : ℕ) → p + length l ≤ k → getD (sets out p l) k d ≡ getD out k d
-  stored-after [] out p k h = refl
-  stored-after (a ∷ l) out p k h = stored-after l (set out p a) (suc p) k (omega arith) ∙ getD-set-other out p k a d (λ e. omega (arith, e))
-
-  pub stored-in : (f : ℕ → A) (n : ℕ) (out : List A) (p q k : ℕ) → k < n → p + n ≤ length out → getD (sets out p (from f n q)) (p + k) d ≡ f (q + k)
-  stored-in f zero out p q k h l = absurd (omega arith)
-  stored-in f (suc n) out p q zero h l =
-      ap (λ m. getD (sets (set out p (f q)) (suc p) (from f n (suc q))) m d) (add-zero p)
-      ∙ stored-before (from f n (suc q)) (set out p (f q)) (suc p) p (omega arith)
-      ∙ getD-set-same out p (f q) d (omega arith) ∙ ap f (sym (add-zero q))
-  stored-in f (suc n) out p q (suc k) h l =
-      ap (λ m. getD (sets (set out p (f q)) (suc p) (from f n (suc q))) m d) (sym (next-place p k))
-      ∙ stored-in f n (set out p (f q)) (suc p) (suc q) k (omega arith) (rw (length-set out p (f q)) (omega arith)) ∙ ap f (next-place q k)
 
 -- ---- the key
 pub products-sum : (n : ℕ) (f : ℕ → ℤ) (p : ℕ) (l : List ℤ) → length l ≡ n → products (from f n p) l ≡ sum (λ k. f (p + k) *ℤ getD l k (pos 0)) n
@@ -77,12 +49,6 @@ key-closes g slot e = ap (λ z. z +ℤ getD (g .constant) slot (pos 0)) (sym (pr
 blocks : (n i j : ℕ) → i < j → i * n + n ≤ j * n
 blocks n i j h = rw (suc-mul i n) at (mul-le-mul h (le-refl n))
 
-pub from-same : {A : Type 0} (f g : ℕ → A) (n p : ℕ) → ((k : ℕ) → k < n → f (p + k) ≡ g (p + k)) → from f n p ≡ from g n p
-from-same f g zero p e = refl
-from-same f g (suc n) p e =
-    let first : f p ≡ g p = ap f (sym (add-zero p)) ∙ e 0 (omega arith) ∙ ap g (add-zero p) in
-    λ i. first i ∷ from-same f g n (suc p) (λ k l. ap f (next-place p k) ∙ e (suc k) (omega arith) ∙ ap g (sym (next-place p k))) i
-
 -- ---- the job's own slots
 pub record Sized (s : ClosedSlots) : Type 0 where
   pub alternatives : length (s .alternatives) ≡ 32
@@ -98,7 +64,7 @@ conditionIn s job = conditionAt (s .alternatives) (s .atoms) (s .measure) (s .op
 abbrev atomIn : ClosedSlots → ℕ → Atom
 atomIn s slot = atomAt (s .measure) (s .operator) (s .key) slot
 
-abbrev alternativeIn : ClosedSlots → ℕ → List Atom
+abbrev pub alternativeIn : ClosedSlots → ℕ → List Atom
 alternativeIn s node = alternativeAt (s .atoms) (s .measure) (s .operator) (s .key) node
 
 module _ (job : ℕ) (small : job < 32) (s : ClosedSlots) (sized : Sized s) (g : GivenSlots) where

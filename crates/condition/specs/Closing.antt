@@ -1,18 +1,16 @@
 -- What closure puts into a job's slots.
-use mathlib.Core.Path.{_≡_, refl, sym, ap, _∙_}
-use mathlib.Core.List.{List, [], _∷_, _++_}
+use mathlib.Core.List.{List}
 use Prim.Native.Nat.{ℕ, zero, suc, _+_, _*_}
 use lib.IntN.{ℤ, pos, _+ℤ_}
-use lib.ListN.{getD, set, length}
+use lib.ListN.{getD, set}
 use lib.Seq.{sets}
-use native.Mathlib.Nat.{suc-mul, add-zero, zero-add}
-use native.Mathlib.Numerals.{add-one}
+use native.Mathlib.Nat.{suc-mul}
 use native.Mathlib.Omega.{arith}
 use Rattle.rules.specs.Limits.{coefficientMost, valueMost}
 use Rattle.rules.specs.Laws.Bounds.{Within, in-add, in-mul, within-more}
 use Rattle.integers.specs.Sums.{sum}
 use Rattle.condition.specs.Measures.{AllIn, term}
-use Rattle.condition.specs.Closed.{from}
+use Rattle.condition.specs.From.{from}
 
 -- the key of the atom in a Wait's slot
 abbrev pub keyAt : List ℤ → List ℤ → List ℤ → ℕ → ℤ
@@ -68,41 +66,3 @@ sum-within f N (suc n) h = within-more (in-add (sum-within f N n h) (h n)) (rw (
 
 pub local-within : (coefficients locals : List ℤ) (first : ℕ) → AllIn coefficientMost coefficients → AllIn valueMost locals → Within 400_000_000 (sum (term coefficients first locals) 4)
 local-within coefficients locals first c l = sum-within (term coefficients first locals) 100_000_000 4 (λ k. in-mul (c (first + k)) (l k))
-
--- ---- stores one after the other, from a place on
-from-more : {A : Type 0} (f : ℕ → A) (n p : ℕ) → from f (suc n) p ≡ from f n p ++ (f (p + n) ∷ [])
-from-more f zero p = ap (λ k. f k ∷ []) (sym (add-zero p))
-from-more f (suc n) p = ap (λ l. f p ∷ l) (from-more f n (suc p) ∙ ap (λ k. from f n (suc p) ++ (f k ∷ [])) e)
-  where
-    e : suc p + n ≡ p + suc n
-    e = omega arith
-
-sets-more : {A : Type 0} (out : List A) (p : ℕ) (l : List A) (a : A) → sets out p (l ++ (a ∷ [])) ≡ set (sets out p l) (p + length l) a
-sets-more out p [] a = ap (λ k. set out k a) (sym (add-zero p))
-sets-more out p (x ∷ l) a = sets-more (set out p x) (suc p) l a ∙ ap (λ k. set (sets (set out p x) (suc p) l) k a) e
-  where
-    e : suc p + length l ≡ p + suc (length l)
-    e = omega arith
-
-pub from-many : {A : Type 0} (f : ℕ → A) (n p : ℕ) → length (from f n p) ≡ n
-from-many f zero p = refl
-from-many f (suc n) p = ap suc (from-many f n (suc p))
-
--- the first i are stored
-pub record StoredUpTo {A : Type 0} (f : ℕ → A) (first : ℕ) (out₀ out : List A) (i : ℕ) : Type 0 where
-  pub is : out ≡ sets out₀ first (from f i 0)
-
-module _ {A : Type 0} (f : ℕ → A) (first : ℕ) (out₀ : List A) where
-  pub put-none : StoredUpTo f first out₀ out₀ 0
-  put-none = record { is = refl }
-
-  -- a is what the machine stores for the next
-  pub put-more : (out : List A) (i : ℕ) {a : A} → a ≡ f i → StoredUpTo f first out₀ out i → StoredUpTo f first out₀ (set out (first + i) a) (i + 1)
-  put-more out i {a} e p = record {
-    is = (λ k. set (p .is k) (first + i) (e k))
-        ∙ ap (λ n. set (sets out₀ first (from f i 0)) (first + n) (f i)) (sym (from-many f i 0)) ∙ sym (sets-more out₀ first (from f i 0) (f i))
-        ∙ ap (sets out₀ first) (ap (λ k. from f i 0 ++ (f k ∷ [])) (sym (zero-add i)) ∙ sym (from-more f i 0) ∙ ap (λ n. from f n 0) (sym (add-one i)));
-  }
-
-  pub put-all : {n i : ℕ} {out : List A} → n ≡ i → StoredUpTo f first out₀ out i → out ≡ sets out₀ first (from f n 0)
-  put-all e p = p .is ∙ ap (λ n. sets out₀ first (from f n 0)) (sym e)

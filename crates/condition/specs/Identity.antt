@@ -10,7 +10,8 @@ use lib.ListN.{getD}
 use Rattle.rules.specs.Base.{each, eqZ}
 use Rattle.rules.specs.Condition.{sameAtom, identical}
 use Rattle.condition.specs.Along.{eachLeft, each-apart, each-start}
-use Rattle.condition.specs.Closed.{from, atomAt, alternativeAt, conditionAt}
+use Rattle.condition.specs.From.{from}
+use Rattle.condition.specs.Closed.{atomAt, alternativeAt, conditionAt}
 
 module _ (measure operator : List ℕ) (key : List ℤ) where
   -- ---- two atoms

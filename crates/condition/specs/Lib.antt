@@ -1,6 +1,8 @@
 -- Conditions in lent arrays, and the laws that the proofs cite.
 pub mod Compare
 pub mod Measures
+pub mod From
+pub mod StoredFrom
 pub mod Closed
 pub mod Along
 pub mod Truth

@@ -14,7 +14,8 @@ use Rattle.rules.specs.Base.{if_then_else_, first}
 use Rattle.rules.specs.Condition.{Atom, atomTrue}
 use Rattle.rules.specs.Tag.{tag, or-else, isEquality, isThreshold, holds}
 use Rattle.rules.specs.Laws.In.{byBool}
-use Rattle.condition.specs.Closed.{from, atomAt, alternativeAt}
+use Rattle.condition.specs.From.{from}
+use Rattle.condition.specs.Closed.{atomAt, alternativeAt}
 use Rattle.condition.specs.declared.tag.Tag.{Tag}
 use Rattle.condition.specs.declared.tag.Tag.the-variants.{At, Nowhere}
 

@@ -7,7 +7,8 @@ use lib.ListN.{getD}
 use Rattle.rules.specs.Base.{all, any}
 use Rattle.rules.specs.Condition.{atomTrue, alternativeTrue, conditionTrue}
 use Rattle.condition.specs.Along.{allLeft, anyLeft, all-start, any-start}
-use Rattle.condition.specs.Closed.{from, atomAt, alternativeAt, conditionAt}
+use Rattle.condition.specs.From.{from}
+use Rattle.condition.specs.Closed.{atomAt, alternativeAt, conditionAt}
 
 module _ (now : List ℤ) (measure operator : List ℕ) (key : List ℤ) (atoms : List ℕ) where
   pub alternative-start : {count : ℕ} (node : ℕ) → count ≡ min (getD atoms node 0) 4 →

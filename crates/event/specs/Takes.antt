@@ -2,7 +2,7 @@
 -- by `take`, and so by the arrays that are its room.
 use mathlib.Core.Path.{_≡_, refl, sym, ap, _∙_, subst}
 use mathlib.Core.List.{List, [], _∷_}
-use Prim.Native.Nat.{ℕ, _≤_, _<_}
+use Prim.Native.Nat.{ℕ, _≤_}
 use native.Mathlib.Omega.{arith}
 use lib.ListN.{length, drop, drop-of-length-le}
 use Rattle.rules.specs.Laws.Cases.{byLt}
@@ -17,7 +17,7 @@ use Rattle.rules.specs.Laws.Readers.{read-refused}
 use Rattle.rules.specs.Laws.WellFormed.{EventFits, sound-event}
 use Rattle.rules.specs.Demands.Invariant.{Invariant}
 use Rattle.rules.specs.Demands.Reached.{take-keeps}
-use Rattle.condition.specs.Closing.{from-many}
+use Rattle.condition.specs.From.{from-many}
 use Rattle.room.specs.Arrays.{Arrays, measureRow, roomOf}
 use Rattle.room.specs.Stores.{storeOf, storeAfter}
 use Rattle.room.specs.Kept.{Sound, Kept}

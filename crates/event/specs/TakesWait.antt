@@ -21,7 +21,7 @@ use Rattle.fields.specs.declared.number.Number.{Number}
 use Rattle.fields.specs.declared.number.Number.the-variants as number
 use Rattle.wire.specs.Heads.{headAt}
 use Rattle.wire.specs.Events.{HeadMeans, head-means}
-use Rattle.wire.specs.Waits.{WaitSlots, Body, numbers, asWait, localsOf, ReadsWait}
+use Rattle.wire.specs.WaitSlots.{WaitSlots, Body, numbers, asWait, localsOf, ReadsWait}
 use Rattle.condition.specs.Closes.{conditionIn, givenCondition}
 use Rattle.given.specs.Taken.{givenIn, taken}
 use Rattle.given.specs.Taken as given

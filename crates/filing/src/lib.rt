@@ -8,7 +8,7 @@ ghost use lib.Seq.{sets};
 ghost use Rattle.rules.specs.Limits.{keyMost};
 ghost use Rattle.rules.specs.Laws.Bounds.{Within};
 ghost use Rattle.condition.specs.Measures.{AllIn};
-ghost use Rattle.condition.specs.Closed.{from};
+ghost use Rattle.condition.specs.From.{from};
 ghost use Rattle.condition.specs.Tags.{tagAt, tagMeans};
 ghost use Rattle.ranks.specs.Words.{keyRoom, highWord, lowWord};
 ghost use Rattle.filing.specs.Homes.{homeAt};

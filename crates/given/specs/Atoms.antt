@@ -12,10 +12,9 @@ use Rattle.rules.specs.Condition.{Given}
 use Rattle.rules.specs.Laws.Bounds.{Within}
 use Rattle.rules.specs.Laws.WellFormed.{GivenFits}
 use Rattle.wire.specs.Numbers.{putNumber, putNumbers}
-use Rattle.wire.specs.Waits.{AtomSlots, putAtom, noSlots}
+use Rattle.wire.specs.WaitSlots.{AtomSlots, putAtom, noSlots}
 use Rattle.condition.specs.Measures.{AllIn}
-use Rattle.condition.specs.Closed.{from}
-use Rattle.condition.specs.Closes.{from-same}
+use Rattle.condition.specs.From.{from, from-same}
 use Rattle.given.specs.Slots.{Puts, all-kept, all-good, all-back, set-every, replicate-every}
 
 -- ---- coefficients

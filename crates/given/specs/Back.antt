@@ -10,11 +10,11 @@ use lib.Seq.{getD-set-same, getD-set-other}
 use Rattle.rules.specs.Condition.{Given}
 use Rattle.rules.specs.Laws.Bounds.{Within}
 use Rattle.rules.specs.Laws.WellFormed.{Numbers, GivenFits, Parts}
-use Rattle.wire.specs.Waits.{putAtoms, WaitSlots, putAlternative, putAlternatives, noSlots}
+use Rattle.wire.specs.WaitSlots.{putAtoms, WaitSlots, putAlternative, putAlternatives, noSlots}
 use Rattle.condition.specs.Measures.{AllIn}
-use Rattle.condition.specs.Closed.{from}
 use Rattle.condition.specs.Closing.{givenSlots}
-use Rattle.condition.specs.Closes.{givenCondition, from-same}
+use Rattle.condition.specs.From.{from, from-same}
+use Rattle.condition.specs.Closes.{givenCondition}
 use Rattle.given.specs.Slots.{Puts, all-kept, all-good, all-back, each-every}
 use Rattle.given.specs.Atoms.{AtomsFit, givenAtomAt, atoms, no-atoms}
 

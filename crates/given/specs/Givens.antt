@@ -8,10 +8,10 @@ use Rattle.rules.specs.Limits.{coefficientMost, valueMost}
 use Rattle.rules.specs.Base.{all, any}
 use Rattle.rules.specs.Condition.{Atom, close, closure, atomTrue, alternativeTrue, conditionTrue}
 use Rattle.condition.specs.Measures.{AllIn}
-use Rattle.condition.specs.Closed.{from}
 use Rattle.condition.specs.Along.{allLeft, anyLeft, all-start, any-start}
 use Rattle.condition.specs.Closing.{GivenSlots}
-use Rattle.condition.specs.Closes.{givenAt, givenAlternative, givenCondition, from-map}
+use Rattle.condition.specs.From.{from, from-map}
+use Rattle.condition.specs.Closes.{givenAt, givenAlternative, givenCondition}
 
 -- what every room and every Wait that was read keep to
 pub record GivenRanges (cs vs gs ks ls : List ℤ) : Type 0 where

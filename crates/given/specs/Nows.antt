@@ -3,7 +3,7 @@
 use mathlib.Core.Path.{_≡_, refl, sym, ap, _∙_}
 use mathlib.Core.List.{List, [], map}
 use Prim.Native.Nat.{ℕ, zero, suc, _+_, _*_, _<_, _≤_}
-use native.Mathlib.Nat.{add-zero, zero-add}
+use native.Mathlib.Nat.{zero-add}
 use native.Mathlib.Omega.{arith}
 use native.Mathlib.Decide.{decLt}
 use lib.IntN.{ℤ, pos, _*ℤ_, zero-*ℤ}
@@ -11,18 +11,8 @@ use lib.ListN.{getD, length, List·getD-eq-default, List·getD-map}
 use Rattle.rules.specs.Room.{measured}
 use Rattle.integers.specs.Sums.{sum}
 use Rattle.condition.specs.Measures.{nowAt, term, now-at, now-past}
-use Rattle.condition.specs.Closed.{from}
-use Rattle.condition.specs.Closing.{from-many}
+use Rattle.condition.specs.From.{from, from-get, from-many}
 use Rattle.condition.specs.Closes.{products-sum}
-
--- what stands at a place of so many from one on
-from-place : {A : Type 0} (f : ℕ → A) (d : A) (n p k : ℕ) → k < n → getD (from f n p) k d ≡ f (p + k)
-from-place f d zero p k h = absurd (omega arith)
-from-place f d (suc n) p zero h = ap f (sym (add-zero p))
-from-place f d (suc n) p (suc k) h = from-place f d n (suc p) k (omega arith) ∙ ap f e
-  where
-    e : suc p + k ≡ p + suc k
-    e = omega arith
 
 sum-none : (f : ℕ → ℤ) (n : ℕ) → ((k : ℕ) → f k ≡ pos 0) → sum f n ≡ pos 0
 unfolding sum
@@ -44,7 +34,7 @@ module _ (coefficients values : List ℤ) where
         go : Dec (m < n) → Dec (m < 16) → getD (nowAt coefficients values) m (pos 0) ≡ measured values (getD (rowsOf n) m [])
         go (yes h) d =
             now-at coefficients values m (omega arith) ∙ sym (products-sum 8 (λ k. getD coefficients k (pos 0)) (m * 8) values eight)
-            ∙ ap (λ j. measured values (rowAt j)) (sym (zero-add m)) ∙ ap (measured values) (sym (from-place rowAt [] n 0 m h))
+            ∙ ap (λ j. measured values (rowAt j)) (sym (zero-add m)) ∙ ap (measured values) (sym (from-get [] rowAt n 0 m h))
         go (no h) (yes l) =
             now-at coefficients values m l
             ∙ sum-none (term coefficients (m * 8) values) 8 (λ k. ap (λ z. z *ℤ getD values k (pos 0)) (none (m * 8 + k) (omega (arith, h))) ∙ zero-*ℤ (getD values k (pos 0)))

@@ -8,7 +8,7 @@ use Rattle.rules.specs.Number.{read, times}
 use Rattle.rules.specs.Record.{value, condition}
 use Rattle.rules.specs.Laws.WellFormed.{Numbers, GivenFits, Parts, sound-value, sound-condition}
 use Rattle.rules.specs.Laws.Readers.{SoundReader, sound-pure, sound-then, sound-times}
-use Rattle.wire.specs.Waits.{Body, numbers}
+use Rattle.wire.specs.WaitSlots.{Body, numbers}
 
 module _ (measures : ℕ) where
   abbrev pub BodyFits : Body → Type 0

@@ -7,7 +7,7 @@ use native.Mathlib.Omega.{arith}
 use lib.ListN.{getD, set, length, replicate}
 use Rattle.rules.specs.Laws.Bounds.{Each}
 use Rattle.wire.specs.Into.{putAll}
-use Rattle.condition.specs.Closed.{from}
+use Rattle.condition.specs.From.{from}
 
 -- `at` is what stands in a slot, P is asked of what is put, and Good of the slots
 pub record Puts {A S : Type 0} (put : ℕ → S → A → S) (at : S → ℕ → A) (P : A → Type 0) (Good : S → Type 0) (most : ℕ) : Type 0 where

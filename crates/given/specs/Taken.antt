@@ -12,7 +12,7 @@ use Rattle.rules.specs.Condition.{Given, closure}
 use Rattle.fields.specs.Answers.{placeOf}
 use Rattle.fields.specs.declared.number.Number.{Number}
 use Rattle.fields.specs.declared.number.Number.the-variants as number
-use Rattle.wire.specs.Waits.{WaitSlots, putAlternatives, noSlots, Body, numbers, ReadsWait}
+use Rattle.wire.specs.WaitSlots.{WaitSlots, putAlternatives, noSlots, Body, numbers, ReadsWait}
 use Rattle.condition.specs.Measures.{AllIn}
 use Rattle.condition.specs.Closing.{GivenSlots, givenSlots}
 use Rattle.condition.specs.Closes.{givenCondition}

@@ -18,7 +18,8 @@ use Rattle.rules.specs.Laws.In.{byBool}
 use Rattle.condition.specs.Closes.{conditionIn}
 use Rattle.room.specs.Arrays.{standingOf, standingAt}
 use Rattle.room.specs.Kept.{Kept}
-use Rattle.room.specs.Standings.{from-past, standing-is}
+use Rattle.condition.specs.From.{from-past}
+use Rattle.room.specs.Standings.{standing-is}
 use Rattle.room.specs.Occupied.{somebody, occupied-is}
 use Rattle.harbour.specs.Rooms.{arraysOf, meaning}
 use Rattle.harbour.specs.declared.Room.{Room}

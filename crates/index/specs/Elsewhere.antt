@@ -24,7 +24,7 @@ use Rattle.homes.specs.Orders.{over, over-lt}
 use Rattle.homes.specs.Regions.{region}
 use Rattle.homes.specs.Moves.{timesInHome, HomeInOrder}
 use Rattle.entries.specs.Entries.{Waits, isLead, Led, Entries, waits-below}
-use Rattle.index.specs.Filed.{homeIn, tagIn, alternativesIn, isNode, Filed}
+use Rattle.index.specs.Filed.{homeIn, tagIn, alternativesIn, isNode, Filed, node-parts}
 use Rattle.index.specs.Keeps.{bit-some}
 use Rattle.index.specs.Index.{Index}
 
@@ -68,9 +68,6 @@ module _ (s s′ : ClosedSlots) (ticket ticket′ entry high low high′ low′ 
     home-kept =
         home-means (s′ .atoms) (s′ .measure) (s′ .operator) (s′ .key) (j * 4 + i) ∙ ap home tag-kept
         ∙ sym (home-means (s .atoms) (s .measure) (s .operator) (s .key) (j * 4 + i))
-
-  node-parts : (x : ℕ) → x / 4 * 4 + x % 4 ≡ x
-  node-parts x = omega arith
 
   belongs-kept : (h x : ℕ) → (isNode s′ entry x && eqb (homeIn s′ x) h) ≡ (isNode s entry x && eqb (homeIn s x) h)
   belongs-kept h x = byEq (x / 4) job

@@ -3,7 +3,8 @@ use mathlib.Core.Path.{_≡_}
 use mathlib.Core.Bool.{Bool, _&&_}
 use mathlib.Core.List.{List}
 use mathlib.Core.Option.{Option}
-use Prim.Native.Nat.{ℕ, _<_, _/_, _%_, min}
+use Prim.Native.Nat.{ℕ, _+_, _*_, _<_, _/_, _%_, min}
+use native.Mathlib.Omega.{arith}
 use lib.Dec.{eqb, ltb}
 use lib.ListN.{getD, length}
 use Rattle.rules.specs.Condition.{Atom}
@@ -23,6 +24,10 @@ tagIn s x = tagMeans (s .measure) (s .operator) (s .key) (tagAt (s .atoms) (s .o
 
 abbrev pub alternativesIn : ClosedSlots → ℕ → ℕ
 alternativesIn s j = min (getD (s .alternatives) j 0) 4
+
+-- a node tells its job and its alternative
+pub node-parts : (x : ℕ) → x / 4 * 4 + x % 4 ≡ x
+node-parts x = omega arith
 
 -- node x is an alternative of a lead
 abbrev pub isNode : ClosedSlots → List ℕ → ℕ → Bool

@@ -91,7 +91,7 @@ pub fn join(
     }
 }
 
-// The job, which waits, parts from the index. The next oldest of an entry takes a lead's place.
+// The job parts from the index, if it is in it. The next oldest of an entry takes a lead's place.
 pub fn part(
     places: &mut [u8],
     lengths: &mut [u8],
@@ -106,7 +106,7 @@ pub fn part(
     ticket: &[u32; 32],
     job: usize,
 )
-    requires { ⌜ job < 32 ⌝ ∗ ⌜ ((k : ℕ) → getD (now measure) k 0 < 16) ⌝ ∗ ⌜ Waits (now entry) job ⌝ }
+    requires { ⌜ job < 32 ⌝ ∗ ⌜ ((k : ℕ) → getD (now measure) k 0 < 16) ⌝ }
     requires { ⌜ Index (closedSlots (now alternatives) (now atoms) (now measure) (now operator) (now key)) (now ticket) (now entry) (now high) (now low) (now places) (now lengths) ⌝ }
     ensures { λ _. ⌜ PartedIndex (closedSlots (now (alternatives .entry)) (now (atoms .entry)) (now (measure .entry)) (now (operator .entry)) (now (key .entry)))
         (now (ticket .entry)) (now (high .entry)) (now (low .entry)) job (now (entry .entry)) (now (entry .exit)) (now (places .exit)) (now (lengths .exit)) ⌝ }

@@ -6,7 +6,7 @@ use mathlib.Core.List.{List, _++_}
 use Prim.Native.Nat.{ℕ, suc, _+_, _<_, _≤_}
 use native.Mathlib.Numerals.{add-one}
 use native.Mathlib.Omega.{arith}
-use lib.ListN.{length, drop, length-drop}
+use lib.ListN.{length, drop}
 use borrow.Author.Tests.{le-leb, lt-leb}
 use Rattle.rules.specs.Room.{Room}
 use Rattle.rules.specs.Step.{Report}
@@ -14,7 +14,7 @@ use Rattle.rules.specs.Tally as tally
 use Rattle.rules.specs.Listing.{lines, reported, line, text, decimal, _␣_, job, outcomeWord}
 use Rattle.rules.specs.Laws.Readers.{Took}
 use Rattle.rules.specs.Demands.Answers.{Answers, every-event-is-answered}
-use Rattle.rules.specs.Demands.Listings.{lines-enough}
+use Rattle.rules.specs.Demands.Listings.{lines-enough, shorter}
 use Rattle.room.specs.Arrays.{Arrays, roomOf}
 use Rattle.room.specs.Reports.{outcomeOf, jobIn}
 use Rattle.event.specs.Takes.{Takes}
@@ -24,9 +24,6 @@ use Rattle.listing.specs.Lines.{acceptedLine, refusedLine, endLine, line
 -- the lines of the events that stand in the bytes from a place on: the first of them is event n, after `before` accepted ones
 abbrev pub linesFrom : List ℕ → ℕ → ℕ → ℕ → Arrays → List ℕ
 linesFrom bytes place n before a = lines (suc (length (drop place bytes))) n before (roomOf a) (drop place bytes)
-
-shorter : {bytes rest : List ℕ} → Took 2 bytes rest → length rest < length bytes
-shorter {bytes} t = omega (arith, t .at-least, t .at-most, ap length (t .left), length-drop (t .count) bytes)
 
 module _ (a : Arrays) (bytes : List ℕ) (place n before : ℕ) where
   abbrev left : List ℕ

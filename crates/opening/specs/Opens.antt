@@ -17,7 +17,7 @@ use Rattle.fields.specs.declared.number.Number.{Number}
 use Rattle.fields.specs.declared.number.Number.the-variants.{Got, Refused}
 use Rattle.wire.specs.Openings.{slots, asOpening, coefficientsOf, valuesOf}
 use Rattle.wire.specs.Rows.{flat}
-use Rattle.condition.specs.Closed.{from}
+use Rattle.condition.specs.From.{from}
 use Rattle.condition.specs.Closing.{ClosedSlots, closedSlots}
 use Rattle.condition.specs.Measures.{AllIn}
 use Rattle.room.specs.Arrays.{Arrays, arrays, standingAt, measureRow, roomOf}

@@ -9,7 +9,7 @@ use lib.ListN.{getD, length, replicate, length-append, length-replicate}
 use lib.Seq.{getD-append-add}
 use Rattle.rules.specs.Laws.Bounds.{Within, Each}
 use Rattle.rules.specs.Laws.WellFormed.{Numbers}
-use Rattle.condition.specs.Closed.{from}
+use Rattle.condition.specs.From.{from}
 use Rattle.condition.specs.Measures.{AllIn}
 use Rattle.wire.specs.Openings.{slots}
 use Rattle.wire.specs.Rows.{flat}

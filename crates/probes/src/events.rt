@@ -2,7 +2,7 @@
 ghost use mathlib.Core.Path.{_≡_};
 ghost use lib.ListN.{drop};
 ghost use Rattle.wire.specs.Heads.{headAt};
-ghost use Rattle.wire.specs.Waits.{atomSlots, waitSlots, numbers, asWait, localsOf, slotsOf};
+ghost use Rattle.wire.specs.WaitSlots.{atomSlots, waitSlots, numbers, asWait, localsOf, slotsOf};
 ghost use Rattle.probes.specs.Answers.{plainAnswer};
 ghost use Rattle.probes.specs.Heads.{plainHead};
 use crate::answers::Answer;

@@ -6,7 +6,7 @@ ghost use lib.ListN.{getD};
 ghost use lib.Seq.{sets};
 ghost use Rattle.rules.specs.Limits.{keyMost};
 ghost use Rattle.condition.specs.Measures.{AllIn, Ranges, nowAt};
-ghost use Rattle.condition.specs.Closed.{from};
+ghost use Rattle.condition.specs.From.{from};
 ghost use Rattle.condition.specs.Closing.{closedSlots};
 ghost use Rattle.condition.specs.Tags.{tagAt, tagMeans};
 ghost use Rattle.ranks.specs.Words.{highWord, lowWord};
@@ -120,7 +120,7 @@ pub extern "C" fn probe_part(
     ticket: &[u32; 32],
     job: usize,
 )
-    requires { ⌜ job < 32 ⌝ ∗ ⌜ ((k : ℕ) → getD (now measure) k 0 < 16) ⌝ ∗ ⌜ Waits (now entry) job ⌝ }
+    requires { ⌜ job < 32 ⌝ ∗ ⌜ ((k : ℕ) → getD (now measure) k 0 < 16) ⌝ }
     requires { ⌜ Index (closedSlots (now alternatives) (now atoms) (now measure) (now operator) (now key)) (now ticket) (now entry) (now high) (now low) (now places) (now lengths) ⌝ }
     ensures { λ _. ⌜ PartedIndex (closedSlots (now (alternatives .entry)) (now (atoms .entry)) (now (measure .entry)) (now (operator .entry)) (now (key .entry)))
         (now (ticket .entry)) (now (high .entry)) (now (low .entry)) job (now (entry .entry)) (now (entry .exit)) (now (places .exit)) (now (lengths .exit)) ⌝ }

@@ -8,7 +8,7 @@ use lib.ListN.{getD}
 use Rattle.rules.specs.Base.{if_then_else_}
 use Rattle.rules.specs.Condition.{Condition}
 use Rattle.rules.specs.Room.{Room, Standing, outside, door, inside, waiting, called}
-use Rattle.condition.specs.Closed.{from}
+use Rattle.condition.specs.From.{from}
 use Rattle.condition.specs.Closing.{ClosedSlots}
 use Rattle.condition.specs.Closes.{conditionIn}
 

@@ -10,7 +10,7 @@ use lib.ListN.{getD}
 use Rattle.rules.specs.Base.{if_then_else_, any}
 use Rattle.rules.specs.Room.{isInside}
 use Rattle.rules.specs.Step.{occupied}
-use Rattle.condition.specs.Closed.{from}
+use Rattle.condition.specs.From.{from}
 use Rattle.condition.specs.Closes.{conditionIn}
 use Rattle.room.specs.Arrays.{Arrays, standingAt, roomOf}
 use Rattle.room.specs.Kept.{Sound}

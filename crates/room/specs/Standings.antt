@@ -1,54 +1,22 @@
 -- One job's standing is stored, and the rules' room changes as `stand` says; and those that stand waiting are those in the index.
 use mathlib.Core.Path.{_≡_, refl, sym, ap, _∙_}
 use mathlib.Core.Bool.{false}
-use mathlib.Core.List.{[], _∷_, _++_}
-use Prim.Native.Nat.{ℕ, zero, suc, _+_, _<_, _≤_}
-use native.Mathlib.Nat.{add-zero}
+use mathlib.Core.List.{[], _++_}
+use Prim.Native.Nat.{ℕ, zero, suc, _+_, _<_}
 use native.Mathlib.Omega.{arith}
 use lib.Dec.{eqb, ltb}
 use borrow.Author.Tests.{eqb-true, eq-eqb, ne-eqb}
 use lib.ListN.{getD, set}
-use Rattle.rules.specs.Base.{if_then_else_, gather}
+use Rattle.rules.specs.Base.{gather}
 use Rattle.rules.specs.Condition.{Condition}
 use Rattle.rules.specs.Room.{Standing, outside, door, inside, waiting, called, standing}
 use Rattle.rules.specs.Search.{waiter, waiters}
 use Rattle.rules.specs.Laws.In.{byBool}
-use Rattle.condition.specs.Closed.{from}
+use Rattle.condition.specs.From.{from, from-get, from-set}
 use Rattle.condition.specs.Closes.{conditionIn}
 use Rattle.search.specs.Pairs.{waiterIf, waitersIn}
 use Rattle.room.specs.Arrays.{Arrays, standingOf, standingAt, roomOf}
 
--- ---- places
-next : (p k : ℕ) → suc p + k ≡ p + suc k
-next p k = omega arith
-
-pub from-get : {A : Type 0} (d : A) (f : ℕ → A) (n p k : ℕ) → k < n → getD (from f n p) k d ≡ f (p + k)
-from-get d f zero p k h = absurd (omega arith)
-from-get d f (suc n) p zero h = ap f (sym (add-zero p))
-from-get d f (suc n) p (suc k) h = from-get d f n (suc p) k (omega arith) ∙ ap f (next p k)
-
-pub from-past : {A : Type 0} (d : A) (f : ℕ → A) (n p k : ℕ) → n ≤ k → getD (from f n p) k d ≡ d
-from-past d f zero p k h = refl
-from-past d f (suc n) p zero h = absurd (omega arith)
-from-past d f (suc n) p (suc k) h = from-past d f n (suc p) k (omega arith)
-
-from-same : {A : Type 0} (f g : ℕ → A) (n p : ℕ) → ((k : ℕ) → k < n → g (p + k) ≡ f (p + k)) → from g n p ≡ from f n p
-from-same f g zero p e = refl
-from-same f g (suc n) p e =
-    let first : g p ≡ f p = ap g (sym (add-zero p)) ∙ e 0 (omega arith) ∙ ap f (add-zero p) in
-    λ i. first i ∷ from-same f g n (suc p) (λ k l. ap g (next p k) ∙ e (suc k) (omega arith) ∙ ap f (sym (next p k))) i
-
--- one place changed
-from-set : {A : Type 0} (f g : ℕ → A) (n p j : ℕ) (x : A) → j < n → g (p + j) ≡ x → ((k : ℕ) → k < n → (k ≡ j → ⊥) → g (p + k) ≡ f (p + k)) → from g n p ≡ set (from f n p) j x
-from-set f g zero p j x h e o = absurd (omega arith)
-from-set f g (suc n) p zero x h e o =
-    let first : g p ≡ x = ap g (sym (add-zero p)) ∙ e in
-    λ i. first i ∷ from-same f g n (suc p) (λ k l. ap g (next p k) ∙ o (suc k) (omega arith) (λ z. omega (arith, z)) ∙ ap f (sym (next p k))) i
-from-set f g (suc n) p (suc j) x h e o =
-    let first : g p ≡ f p = ap g (sym (add-zero p)) ∙ o 0 (omega arith) (λ z. omega (arith, z)) ∙ ap f (add-zero p) in
-    λ i. first i ∷ from-set f g n (suc p) j x (omega arith) (ap g (next p j) ∙ e) (λ k l d. ap g (next p k) ∙ o (suc k) (omega arith) (λ z. d (omega (arith, z))) ∙ ap f (sym (next p k))) i
-
--- ---- standings
 pub standing-is : (a : Arrays) (j : ℕ) → j < 32 → standing (roomOf a) j ≡ standingAt a j
 standing-is a j h = let z : 0 + j ≡ j = omega arith in from-get outside (standingAt a) 32 0 j h ∙ ap (standingAt a) z
 

@@ -9,7 +9,7 @@ use lib.Seq.{sets}
 use Rattle.rules.specs.Number.{Read, read, refused}
 use Rattle.rules.specs.Step.{Event, arrive, admit, leave, assign, wait, done, enters, waits, on, back, accepted, refusal, nothing}
 use Rattle.rules.specs.Step as rules
-use Rattle.condition.specs.Closed.{from}
+use Rattle.condition.specs.From.{from}
 use Rattle.condition.specs.Closing.{ClosedSlots, GivenSlots, putClosed}
 use Rattle.ranks.specs.Words.{highWord, lowWord}
 use Rattle.given.specs.Taken.{slotsFor}

@@ -1,7 +1,7 @@
 -- What a home holds, as a list in rising order: a heap's nodes sorted, a row's places from one to another. No node stands twice and no two have one
 -- rank, so the order is strict.
 use mathlib.Core.Path.{_≡_, refl, sym, ap, _∙_}
-use mathlib.Core.Logic.{_⊎_, inl, inr}
+use mathlib.Core.Logic.{inl, inr}
 use mathlib.Core.Bool.{Bool, true, false}
 use mathlib.Core.List.{List, [], _∷_}
 use Prim.Native.Nat.{ℕ, zero, suc, _+_, _-_, _<_, _≤_}
@@ -10,9 +10,8 @@ use native.Mathlib.Omega.{arith}
 use lib.ListN.{getD, length, take, drop}
 use lib.Seq.{drop-cons}
 use Rattle.rules.specs.Laws.Cases.{byEq}
-use Rattle.rules.specs.Base.{if_then_else_}
 use Rattle.rules.specs.Laws.In.{In, byBool}
-use Rattle.condition.specs.Closed.{from}
+use Rattle.condition.specs.From.{from}
 use Rattle.nodes.specs.Counts.{count, is, is-self, is-not, bit, count-more, count-at}
 use Rattle.nodes.specs.Order.{Ordered}
 use Rattle.nodes.specs.Holes.{rankAt}

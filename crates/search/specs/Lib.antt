@@ -6,6 +6,7 @@ pub mod Contents
 pub mod Runs
 pub mod Lookups
 pub mod Heaps
+pub mod Once
 pub mod Pairs
 pub mod Answers
 pub mod Live

@@ -1,10 +1,10 @@
 -- A node is a pair of the rules: a job that waits and one of its alternatives. So the nodes of the leads whose tag holds are the pairs that the
 -- rules count, and a list of them in rising order of rank words is a list of pairs in the order of ranks.
 use mathlib.Core.Path.{_≡_, refl, sym, ap, _∙_, subst}
-use mathlib.Core.Logic.{_⊎_, inl, inr}
+use mathlib.Core.Logic.{inl, inr}
 use mathlib.Core.Bool.{Bool, true, false, not}
-use mathlib.Core.List.{List, [], _∷_, _++_, map}
-use Prim.Native.Nat.{ℕ, zero, suc, _+_, _*_, _/_, _%_, _<_, _≤_, min}
+use mathlib.Core.List.{List, [], _∷_, map}
+use Prim.Native.Nat.{ℕ, zero, suc, _+_, _*_, _/_, _%_, _<_, _≤_}
 use native.Mathlib.Omega.{arith}
 use lib.Dec.{ltb}
 use borrow.Author.Tests.{ltb-true, lt-ltb}
@@ -12,38 +12,21 @@ use lib.IntN.{ℤ}
 use lib.ListN.{getD}
 use Rattle.rules.specs.Laws.Cases.{byEq}
 use Rattle.rules.specs.Base.{if_then_else_, those, gather}
-use Rattle.rules.specs.Condition.{Atom}
 use Rattle.rules.specs.Tag.{tagHolds}
 use Rattle.rules.specs.Rank.{before, rank}
 use Rattle.rules.specs.Search.{Waiter, Pair, pairsOf, pairs, follows, oldest}
-use Rattle.rules.specs.Laws.In.{In, byBool, true-not-false, in-those, those-in, gather-in, in-gather, in-append}
+use Rattle.rules.specs.Laws.In.{In, true-not-false, in-those, those-in, gather-in, in-gather}
 use Rattle.rules.specs.Laws.Waiting.{of, pairsOf-in}
 use Rattle.rules.specs.Laws.Rearranged.{Once, Rearranged, same-members}
 use Rattle.rules.specs.Demands.Ranks.{rank-same}
 use Rattle.rules.specs.Laws.InRankOrder.{InRankOrder, ordered-once}
-use Rattle.condition.specs.Closed.{from, alternativeAt}
+use Rattle.condition.specs.From.{from}
 use Rattle.condition.specs.Closing.{ClosedSlots}
-use Rattle.condition.specs.Closes.{conditionIn}
+use Rattle.condition.specs.Closes.{alternativeIn, conditionIn}
+use Rattle.index.specs.Filed.{alternativesIn, node-parts}
 use Rattle.search.specs.Rising.{Rising}
 use Rattle.search.specs.Contents.{from-in, in-from}
-
--- ---- lists without doubles
-once-those : {A : Type 0} (p : A → Bool) (l : List A) → Once l → Once (those p l)
-once-those p [] o = tt
-once-those p (a ∷ l) o = byBool (p a) (λ t. rw t (λ h. o .0 (in-those p l h .0), once-those p l (o .1))) (λ t. rw t (once-those p l (o .1)))
-
-once-append : {A : Type 0} (l m : List A) → Once l → Once m → ((x : A) → In x l → In x m → ⊥) → Once (l ++ m)
-once-append [] m o u d = u
-once-append (a ∷ l) m o u d = (λ h. elim (in-append a l m h) [ inl p ↦ o .0 p | inr p ↦ d a (inl refl) p ], once-append l m (o .1) u (λ x p q. d x (inr p) q))
-
-once-gather : {A B : Type 0} (f : A → List B) (of-one : B → A) (l : List A) → Once l → ((a : A) → Once (f a)) → ((a : A) (b : B) → In b (f a) → of-one b ≡ a) → Once (gather f l)
-once-gather f of-one [] o u d = tt
-once-gather f of-one (a ∷ l) o u d = once-append (f a) (gather f l) (u a) (once-gather f of-one l (o .1) u d)
-    (λ x p q. let r = in-gather f x l q in o .0 (subst (λ c. In c l) (sym (d (r .0) x (r .2)) ∙ d a x p) (r .1)))
-
-numbers-once : (k a : ℕ) → Once (from (λ j. j) k a)
-numbers-once zero a = tt
-numbers-once (suc k) a = (λ h. let r = from-in (λ j. j) k (suc a) a h in omega (arith, r .1, r .3), numbers-once k (suc a))
+use Rattle.search.specs.Once.{once-those, once-append, once-gather, numbers-once}
 
 module _ (s : ClosedSlots) (ticket entry : List ℕ) where
   -- ---- the jobs that wait, in the order of their numbers
@@ -83,45 +66,39 @@ module _ (s : ClosedSlots) (ticket entry : List ℕ) where
       one false j = tt
 
   -- ---- a node's pair
-  abbrev pub alternativeOf : ℕ → List Atom
-  alternativeOf = alternativeAt (s .atoms) (s .measure) (s .operator) (s .key)
-
   abbrev pub pairOf : ℕ → ℕ → Pair
-  pairOf j i = record { waiter = waiterAt j; alternative = alternativeOf (j * 4 + i); rank = rank (alternativeOf (j * 4 + i)) (getD ticket j 0) i }
+  pairOf j i = record { waiter = waiterAt j; alternative = alternativeIn s (j * 4 + i); rank = rank (alternativeIn s (j * 4 + i)) (getD ticket j 0) i }
 
   abbrev pub pairAt : ℕ → Pair
   pairAt x = pairOf (x / 4) (x % 4)
 
-  abbrev pub countAt : ℕ → ℕ
-  countAt j = min (getD (s .alternatives) j 0) 4
-
-  pairs-at : (j n q i : ℕ) (p : Pair) → q ≡ j * 4 + i → In p (pairsOf (waiterAt j) i (from alternativeOf n q)) → (k : ℕ) × (i ≤ k) × (k < i + n) × (p ≡ pairOf j k)
+  pairs-at : (j n q i : ℕ) (p : Pair) → q ≡ j * 4 + i → In p (pairsOf (waiterAt j) i (from (alternativeIn s) n q)) → (k : ℕ) × (i ≤ k) × (k < i + n) × (p ≡ pairOf j k)
   pairs-at j zero q i p e h = absurd h
-  pairs-at j (suc n) q i p e (inl d) = (i, omega arith, omega arith, d ∙ ap (λ (x : ℕ). record { waiter = waiterAt j; alternative = alternativeOf x; rank = rank (alternativeOf x) (getD ticket j 0) i }) e)
+  pairs-at j (suc n) q i p e (inl d) = (i, omega arith, omega arith, d ∙ ap (λ (x : ℕ). record { waiter = waiterAt j; alternative = alternativeIn s x; rank = rank (alternativeIn s x) (getD ticket j 0) i }) e)
   pairs-at j (suc n) q i p e (inr h) = let r = pairs-at j n (suc q) (suc i) p (omega arith) h in (r .0, omega (arith, r .1), omega (arith, r .2), r .3)
 
-  at-pairs : (j n q i k : ℕ) → q ≡ j * 4 + i → i ≤ k → k < i + n → In (pairOf j k) (pairsOf (waiterAt j) i (from alternativeOf n q))
+  at-pairs : (j n q i k : ℕ) → q ≡ j * 4 + i → i ≤ k → k < i + n → In (pairOf j k) (pairsOf (waiterAt j) i (from (alternativeIn s) n q))
   at-pairs j zero q i k e p r = absurd (omega arith)
   at-pairs j (suc n) q i k e p r = byEq k i
-      (λ d. inl (ap (pairOf j) d ∙ ap (λ (x : ℕ). record { waiter = waiterAt j; alternative = alternativeOf x; rank = rank (alternativeOf x) (getD ticket j 0) i }) (sym e)))
+      (λ d. inl (ap (pairOf j) d ∙ ap (λ (x : ℕ). record { waiter = waiterAt j; alternative = alternativeIn s x; rank = rank (alternativeIn s x) (getD ticket j 0) i }) (sym e)))
       (λ d. inr (at-pairs j n (suc q) (suc i) k (omega arith) (omega arith) (omega arith)))
 
-  pub in-of : (j : ℕ) (p : Pair) → In p (of (waiterAt j)) → (k : ℕ) × (k < countAt j) × (p ≡ pairOf j k)
-  in-of j p h = let r = pairs-at j (countAt j) (j * 4) 0 p (omega arith) h in (r .0, omega (arith, r .2), r .3)
+  pub in-of : (j : ℕ) (p : Pair) → In p (of (waiterAt j)) → (k : ℕ) × (k < alternativesIn s j) × (p ≡ pairOf j k)
+  in-of j p h = let r = pairs-at j (alternativesIn s j) (j * 4) 0 p (omega arith) h in (r .0, omega (arith, r .2), r .3)
 
-  pub of-in : (j k : ℕ) → k < countAt j → In (pairOf j k) (of (waiterAt j))
-  of-in j k h = at-pairs j (countAt j) (j * 4) 0 k (omega arith) (omega arith) (omega arith)
+  pub of-in : (j k : ℕ) → k < alternativesIn s j → In (pairOf j k) (of (waiterAt j))
+  of-in j k h = at-pairs j (alternativesIn s j) (j * 4) 0 k (omega arith) (omega arith) (omega arith)
 
   of-once : (j : ℕ) → Once (of (waiterAt j))
-  of-once j = go (countAt j) (j * 4) 0
+  of-once j = go (alternativesIn s j) (j * 4) 0
     where
-      go : (n q i : ℕ) → Once (pairsOf (waiterAt j) i (from alternativeOf n q))
+      go : (n q i : ℕ) → Once (pairsOf (waiterAt j) i (from (alternativeIn s) n q))
       go zero q i = tt
       go (suc n) q i = (λ h. later (suc i) n (suc q) h (omega arith), go n (suc q) (suc i))
         where
-          later : (m n q′ : ℕ) → In (record { waiter = waiterAt j; alternative = alternativeOf q; rank = rank (alternativeOf q) (getD ticket j 0) i }) (pairsOf (waiterAt j) m (from alternativeOf n q′)) → i < m → ⊥
+          later : (m n q′ : ℕ) → In (record { waiter = waiterAt j; alternative = alternativeIn s q; rank = rank (alternativeIn s q) (getD ticket j 0) i }) (pairsOf (waiterAt j) m (from (alternativeIn s) n q′)) → i < m → ⊥
           later m zero q′ h l = h
-          later m (suc n) q′ (inl e) l = omega (arith, rank-same (alternativeOf q) (alternativeOf q′) (getD ticket j 0) (getD ticket j 0) i m (ap (λ (p : Pair). p .rank) e) .1)
+          later m (suc n) q′ (inl e) l = omega (arith, rank-same (alternativeIn s q) (alternativeIn s q′) (getD ticket j 0) (getD ticket j 0) i m (ap (λ (p : Pair). p .rank) e) .1)
           later m (suc n) q′ (inr h) l = later (suc m) n (suc q′) h (omega arith)
 
   -- ---- the leads' nodes whose tag holds
@@ -148,8 +125,8 @@ module _ (s : ClosedSlots) (ticket entry : List ℕ) where
 
     -- all of them, in whatever order
     pub record AllListed (now : List ℤ) (all : List ℕ) : Type 0 where
-      pub only : (x : ℕ) → In x all → (lead (x / 4) ≡ true) × (x % 4 < countAt (x / 4)) × (tagHolds now (alternativeOf x) ≡ true)
-      pub every : (x : ℕ) → lead (x / 4) ≡ true → x % 4 < countAt (x / 4) → tagHolds now (alternativeOf x) ≡ true → In x all
+      pub only : (x : ℕ) → In x all → (lead (x / 4) ≡ true) × (x % 4 < alternativesIn s (x / 4)) × (tagHolds now (alternativeIn s x) ≡ true)
+      pub every : (x : ℕ) → lead (x / 4) ≡ true → x % 4 < alternativesIn s (x / 4) → tagHolds now (alternativeIn s x) ≡ true → In x all
 
     module _ (now : List ℤ) (all : List ℕ) (listed : AllListed now all) where
       map-in : (l : List ℕ) (x : ℕ) → In x l → In (pairAt x) (map pairAt l)
@@ -165,9 +142,6 @@ module _ (s : ClosedSlots) (ticket entry : List ℕ) where
       abbrev counted : List Pair
       counted = those (λ p. tagHolds now (p .alternative)) (pairs (oldest waitersIn))
 
-      whole : (x : ℕ) → x / 4 * 4 + x % 4 ≡ x
-      whole x = omega arith
-
       into : (p : Pair) → In p counted → In p (map pairAt all)
       into p h =
           let t = in-those (λ q. tagHolds now (q .alternative)) (pairs (oldest waitersIn)) h in
@@ -180,8 +154,8 @@ module _ (s : ClosedSlots) (ticket entry : List ℕ) where
           let a : x / 4 ≡ j = omega (arith, r .1) in
           let b : x % 4 ≡ k = omega (arith, r .1) in
           let e : pairOf j k ≡ pairAt x = λ i. pairOf (sym a i) (sym b i) in
-          let held : tagHolds now (alternativeOf x) ≡ true = ap (λ (q : Pair). tagHolds now (q .alternative)) (sym (r .2)) ∙ t .1 in
-          subst (λ q. In q (map pairAt all)) (sym (r .2 ∙ e)) (map-in all x (listed .every x (ap lead a ∙ o .1) (omega (arith, ap countAt a, r .1)) held))
+          let held : tagHolds now (alternativeIn s x) ≡ true = ap (λ (q : Pair). tagHolds now (q .alternative)) (sym (r .2)) ∙ t .1 in
+          subst (λ q. In q (map pairAt all)) (sym (r .2 ∙ e)) (map-in all x (listed .every x (ap lead a ∙ o .1) (omega (arith, ap (alternativesIn s) a, r .1)) held))
 
       out-of : (p : Pair) → In p (map pairAt all) → In p counted
       out-of p h =
@@ -189,7 +163,7 @@ module _ (s : ClosedSlots) (ticket entry : List ℕ) where
           let x = m .0 in
           let l = listed .only x (m .1) in
           let i : In (pairAt x) (pairs (oldest waitersIn)) = gather-in of (waiterAt (x / 4)) (pairAt x) (oldest waitersIn) (oldest-in (x / 4) (l .0)) (of-in (x / 4) (x % 4) (l .1)) in
-          subst (λ q. In q counted) (sym (m .2)) (those-in (λ q. tagHolds now (q .alternative)) (pairs (oldest waitersIn)) i (ap (λ y. tagHolds now (alternativeOf y)) (whole x) ∙ l .2))
+          subst (λ q. In q counted) (sym (m .2)) (those-in (λ q. tagHolds now (q .alternative)) (pairs (oldest waitersIn)) i (ap (λ y. tagHolds now (alternativeIn s y)) (node-parts x) ∙ l .2))
 
       pairs-once : Once (pairs (oldest waitersIn))
       pairs-once = go (oldest waitersIn) (once-those (λ v. not (follows waitersIn v)) waitersIn waiters-once) (λ w h. in-oldest w h)

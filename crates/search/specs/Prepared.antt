@@ -8,7 +8,7 @@ use native.Mathlib.Omega.{arith}
 use lib.IntN.{ℤ}
 use lib.ListN.{getD, length, take, drop, length-append, length-drop}
 use lib.Seq.{length-take-le}
-use Rattle.condition.specs.Closing.{from-many}
+use Rattle.condition.specs.From.{from-many}
 use Rattle.nodes.specs.Order.{Ordered}
 use Rattle.nodes.specs.Holes.{rankAt}
 use Rattle.rows.specs.Places.{previous}

@@ -17,13 +17,13 @@ use Rattle.rules.specs.Laws.In.{In, byBool, true-not-false, both, any-in, any-s
 use Rattle.rules.specs.Laws.Identical.{identical-true, identical-same}
 use Rattle.rules.specs.Laws.InRankOrder.{InRankOrder, law-found, law-count}
 use Rattle.condition.specs.Tags.{tag-means}
-use Rattle.condition.specs.Closes.{conditionIn}
+use Rattle.condition.specs.Closes.{conditionIn, alternativeIn}
 use Rattle.ranks.specs.Words.{word, highWord, TagFits}
 use Rattle.ranks.specs.Law.{word-order}
 use Rattle.nodes.specs.Ranks.{two}
 use Rattle.rows.specs.Halves.{wordOf}
 use Rattle.entries.specs.Entries.{Waits, isLead, waits-below}
-use Rattle.index.specs.Filed.{alternativesIn}
+use Rattle.index.specs.Filed.{alternativesIn, node-parts}
 use Rattle.walk.specs.Walks.{nodeTrue, walked}
 use Rattle.homes.specs.Regions.{region}
 use Rattle.search.specs.Stretches.{lists}
@@ -31,7 +31,7 @@ use Rattle.search.specs.Runs.{nodesOf}
 use Rattle.search.specs.Lookups.{equalities}
 use Rattle.search.specs.Heaps.{thresholds}
 use Rattle.search.specs.Answers.{answerFor, searchAnswer, asAnswer, same-walk}
-use Rattle.search.specs.Pairs.{waiterAt, waitersIn, in-waiters, waiters-in, alternativeOf, pairAt, AllListed, rearranged, ordered-pairs}
+use Rattle.search.specs.Pairs.{waiterAt, waitersIn, in-waiters, waiters-in, pairAt, AllListed, rearranged, ordered-pairs}
 use Rattle.search.specs.Live.{Searchable, node, rankOf, tagFor, tagged, node-is, fits-is, tag-is}
 use Rattle.search.specs.Stretched.{holding, in-holding, holding-in, rising-holding}
 use Rattle.search.specs.Whole.{walkOrder, walks-holding}
@@ -47,7 +47,7 @@ module _ (q : Searchable) where
   pair = pairAt (q .slots) (q .ticket) (q .entry)
 
   abbrev alternative : ℕ → List Rattle.rules.specs.Condition.Atom
-  alternative = alternativeOf (q .slots) (q .ticket) (q .entry)
+  alternative = alternativeIn (q .slots)
 
   -- ---- the leads are the oldest
   lead-waits : (j : ℕ) → isLead (q .entry) j ≡ true → (j < 32) × (0 < getD (q .entry) j 0)
@@ -99,23 +99,20 @@ module _ (q : Searchable) where
         holding-in q x n (tagged-is x n ∙ t);
   }
 
-  whole : (x : ℕ) → x / 4 * 4 + x % 4 ≡ x
-  whole x = omega arith
-
   rank-word : (x : ℕ) → node q x ≡ true → rankOf q x ≡ word (alternative (x / 4 * 4 + x % 4)) (getD (q .ticket) (x / 4) 0) (x % 4)
   unfolding two
   rank-word x n =
       let i = node-is q x n in
-      let h : wordOf (q .high) x ≡ highWord (tag (alternative (x / 4 * 4 + x % 4))) = i .high-is ∙ ap highWord (tag-of x) ∙ ap (λ y. highWord (tag (alternative y))) (sym (whole x)) in
+      let h : wordOf (q .high) x ≡ highWord (tag (alternative (x / 4 * 4 + x % 4))) = i .high-is ∙ ap highWord (tag-of x) ∙ ap (λ y. highWord (tag (alternative y))) (sym (node-parts x)) in
       (λ k. two (h k) (i .low-is k))
 
   in-rank-order : (x y : ℕ) → In x (holding q) → In y (holding q) → rankOf q x < rankOf q y → before (pair x .rank) (pair y .rank) ≡ true
   in-rank-order x y h k l =
       let a = in-holding q x h in
       let b = in-holding q y k in
-      let fits : (z : ℕ) → TagFits (tag (alternative (z / 4 * 4 + z % 4))) = λ z. subst TagFits (tag-of z ∙ ap (λ y. tag (alternative y)) (sym (whole z))) (fits-is q z) in
+      let fits : (z : ℕ) → TagFits (tag (alternative (z / 4 * 4 + z % 4))) = λ z. subst TagFits (tag-of z ∙ ap (λ y. tag (alternative y)) (sym (node-parts z))) (fits-is q z) in
       let held : (z : ℕ) → node q z ≡ true → tagged q z ≡ true → tagHolds (q .now) (alternative (z / 4 * 4 + z % 4)) ≡ true =
-      λ z n t. ap (λ y. tagHolds (q .now) (alternative y)) (whole z) ∙ sym (tagged-is z n) ∙ t in
+      λ z n t. ap (λ y. tagHolds (q .now) (alternative y)) (node-parts z) ∙ sym (tagged-is z n) ∙ t in
       word-order (q .now) (alternative (x / 4 * 4 + x % 4)) (alternative (y / 4 * 4 + y % 4)) (getD (q .ticket) (x / 4) 0) (getD (q .ticket) (y / 4) 0) (x % 4) (y % 4)
       (held x (a .0) (a .1)) (held y (b .0) (b .1)) (fits x) (fits y) (q .ticket-fits (x / 4)) (q .ticket-fits (y / 4)) (omega arith) (omega arith)
       ∙ lt-ltb (word (alternative (x / 4 * 4 + x % 4)) (getD (q .ticket) (x / 4) 0) (x % 4)) (word (alternative (y / 4 * 4 + y % 4)) (getD (q .ticket) (y / 4) 0) (y % 4))
@@ -133,7 +130,7 @@ module _ (q : Searchable) where
       let held = rearranged (q .slots) (q .ticket) (q .entry) (isLead (q .entry)) lead-waits leads-oldest (q .now) (holding q) nodes-listed pairs-ordered in
       ap (λ l. asAnswer (walked test l)) (walks-holding q)
       ∙ same-walk pair (q .now) test (holding q)
-      (λ x h. let small : x % 128 ≡ x = omega (arith, node-is q x (in-holding q x h .0) .below) in ap (λ y. alternativeTrue (q .now) (alternative y)) (small ∙ sym (whole x)))
+      (λ x h. let small : x % 128 ≡ x = omega (arith, node-is q x (in-holding q x h .0) .below) in ap (λ y. alternativeTrue (q .now) (alternative y)) (small ∙ sym (node-parts x)))
       (λ x. refl)
       ∙ (λ i. answerFor (law-found (q .now) waiting (map pair (holding q)) pairs-ordered held i) (law-count (q .now) waiting (map pair (holding q)) pairs-ordered held i))
 

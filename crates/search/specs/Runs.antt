@@ -8,10 +8,10 @@ use native.Mathlib.Omega.{arith}
 use lib.Dec.{eqb}
 use borrow.Author.Tests.{eq-eqb, ne-eqb}
 use lib.ListN.{getD, length, take, drop}
-use Rattle.rules.specs.Base.{if_then_else_, those}
+use Rattle.rules.specs.Base.{those}
 use Rattle.rules.specs.Laws.Cases.{byLt}
 use Rattle.rules.specs.Laws.In.{In, byBool, those-none}
-use Rattle.condition.specs.Closed.{from}
+use Rattle.condition.specs.From.{from}
 use Rattle.nodes.specs.Holes.{rankAt}
 use Rattle.rows.specs.Halves.{wordOf, Reaches}
 use Rattle.search.specs.Contents.{part-from, from-in}

@@ -9,10 +9,10 @@ use native.Mathlib.Nat.{sub-zero}
 use lib.ListN.{length, length-append}
 use mir.Syntax.{w64}
 use mir.Val.{Fits}
-use Rattle.rules.specs.Base.{if_then_else_, first, gather}
+use Rattle.rules.specs.Base.{first, gather}
 use Rattle.rules.specs.Laws.In.{byBool, none-some}
 use Rattle.rules.specs.Laws.InRankOrder.{upTo}
-use Rattle.condition.specs.Closed.{from}
+use Rattle.condition.specs.From.{from}
 use Rattle.walk.specs.declared.Walk.{Walk}
 use Rattle.walk.specs.declared.Walk.the-variants.{Found, Nobody}
 use Rattle.walk.specs.Walks.{asWalk, walked, walkedOn, none-before}

@@ -16,7 +16,7 @@ use Rattle.rules.specs.Room.{Room, standing, stand, waiting, now, giveTicket}
 use Rattle.rules.specs.Search.{Pair, found}
 use Rattle.rules.specs.Step.{call}
 use Rattle.condition.specs.Measures.{nowAt}
-use Rattle.condition.specs.Closed.{from}
+use Rattle.condition.specs.From.{from}
 use Rattle.condition.specs.Closing.{ClosedSlots, GivenSlots, putClosed}
 use Rattle.condition.specs.Closes.{Sized, conditionIn, closes}
 use Rattle.ranks.specs.Words.{highWord, lowWord}

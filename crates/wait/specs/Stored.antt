@@ -11,9 +11,11 @@ use Rattle.rules.specs.Laws.Cases.{byEq, byLt}
 use Rattle.rules.specs.Limits.{coefficientMost, valueMost, keyMost}
 use Rattle.rules.specs.Laws.Bounds.{Within, in-add}
 use Rattle.condition.specs.Measures.{AllIn}
-use Rattle.condition.specs.Closed.{from, alternativeAt}
-use Rattle.condition.specs.Closing.{ClosedSlots, GivenSlots, putClosed, keyAt, keysFrom, firstOf, from-many, local-within}
-use Rattle.condition.specs.Closes.{Sized, conditionIn, stored-before, stored-after, stored-in, alternative-kept, others-kept}
+use Rattle.condition.specs.Closed.{alternativeAt}
+use Rattle.condition.specs.From.{from, from-many}
+use Rattle.condition.specs.Closing.{ClosedSlots, GivenSlots, putClosed, keyAt, keysFrom, firstOf, local-within}
+use Rattle.condition.specs.StoredFrom.{stored-before, stored-after, stored-in}
+use Rattle.condition.specs.Closes.{Sized, conditionIn, alternative-kept, others-kept}
 use Rattle.search.specs.Live.{SlotsFit}
 
 -- ---- what is so of all that stood there and of all that comes is so of all

@@ -18,7 +18,7 @@ use Rattle.rules.specs.Laws.Readers.{SoundReader, sound-field, sound-below, sou
 use Rattle.fields.specs.Answers.{placeOf}
 use Rattle.wire.specs.Heads.{headAt, kindRead, jobRead, setHead, variableRead, valueRead}
 use Rattle.fields.specs.Places.{at-place}
-use Rattle.wire.specs.Waits.{Body, numbers}
+use Rattle.wire.specs.WaitSlots.{Body, numbers}
 use Rattle.wire.specs.declared.head.Head.{Head}
 use Rattle.wire.specs.declared.head.Head.the-variants.{Arrive, Admit, Set, Wait, Leave, Refused, Nothing}
 

@@ -6,5 +6,6 @@ pub mod Clear
 pub mod Rows
 pub mod Openings
 pub mod Heads
+pub mod WaitSlots
 pub mod Waits
 pub mod Events

@@ -1,4 +1,4 @@
--- The numbers of a Wait in lent slots: what each slot holds, and that the code's way of reading is the rules'.
+-- The numbers of a Wait, read into lent slots: the code's way of reading is the rules'.
 use mathlib.Core.Path.{_≡_, refl, sym, ap, _∙_}
 use mathlib.Core.List.{List, [], _∷_, _++_, append-nil}
 use Prim.Native.Nat.{ℕ, _+_, _*_, _-_, _≤_, _<_}
@@ -7,15 +7,15 @@ use lib.IntN.{ℤ, pos}
 use lib.ListN.{length, drop, set, replicate}
 use lib.Seq.{sets}
 use Rattle.rules.specs.Limits.{operatorMost, partsMost, locals}
-use Rattle.rules.specs.Number.{Read, read, refused, Reader, pure, after, _>>=_, times, field, below, signedField}
+use Rattle.rules.specs.Number.{Read, read, refused, Reader, pure, after, times, field, below, signedField}
 use Rattle.rules.specs.Condition.{Given}
 use Rattle.rules.specs.Record.{atom, value, counted, condition}
 use Rattle.rules.specs.Laws.Bounds.{Each}
 use Rattle.rules.specs.Laws.WellFormed.{GivenFits, Parts, sound-atom, sound-counted}
 use Rattle.rules.specs.Laws.Readers.{SoundReader, sound-field, sound-below, sound-times, read-same, read-refused, refused-same}
-use Rattle.fields.specs.Answers.{placeOf, asNumber, refusalIn}
+use Rattle.fields.specs.Answers.{asNumber, refusalIn}
 use Rattle.wire.specs.Answers.{placeRefusal}
-use Rattle.wire.specs.Into.{Into, told, told-no, putAll, all-no, all-more}
+use Rattle.wire.specs.Into.{Into, told, told-no, all-no, all-more}
 use Rattle.wire.specs.Numbers.{ReadInto, putNumbers, put-sets, numbers-sound}
 use Rattle.wire.specs.Openings.{stored-slots}
 use Rattle.fields.specs.Places.{ReadTo, place-after, number-read, number-refused}
@@ -23,74 +23,7 @@ use Rattle.fields.specs.declared.number.Number.{Number}
 use Rattle.fields.specs.declared.number.Number.the-variants as number
 use Rattle.wire.specs.declared.place.Place.{Place}
 use Rattle.wire.specs.declared.place.Place.the-variants.{Next, Refused}
-
--- ---- one atom in its slot
-pub record AtomSlots : Type 0 where
-  pub measure : List ℕ
-  pub operator : List ℕ
-  pub coefficients : List ℤ
-  pub constant : List ℤ
-
-abbrev pub atomSlots : List ℕ → List ℕ → List ℤ → List ℤ → AtomSlots
-atomSlots measure operator coefficients constant = record { measure = measure; operator = operator; coefficients = coefficients; constant = constant }
-
-abbrev pub putAtom : ℕ → AtomSlots → Given → AtomSlots
-putAtom slot s a = record {
-  measure = set (s .measure) slot (a .measure);
-  operator = set (s .operator) slot (a .operator);
-  coefficients = putNumbers (slot * 4) (s .coefficients) (a .coefficients);
-  constant = set (s .constant) slot (a .constant);
-}
-
-abbrev pub putAtoms : ℕ → AtomSlots → List Given → AtomSlots
-putAtoms = putAll putAtom
-
--- ---- alternatives: an atom count each, and the atoms from four times its number on
-pub record WaitSlots : Type 0 where
-  pub counts : List ℕ
-  pub atoms : AtomSlots
-
-abbrev pub waitSlots : List ℕ → AtomSlots → WaitSlots
-waitSlots counts atoms = record { counts = counts; atoms = atoms }
-
-abbrev pub putAlternative : ℕ → WaitSlots → List Given → WaitSlots
-putAlternative i s l = record { counts = set (s .counts) i (length l); atoms = putAtoms (i * 4) (s .atoms) l }
-
-abbrev pub putAlternatives : ℕ → WaitSlots → List (List Given) → WaitSlots
-putAlternatives = putAll putAlternative
-
--- ---- the whole: slots that nothing was put into, the rules' reader, and what the lent slots then hold
-abbrev pub noLocals : List ℤ
-noLocals = replicate 4 (pos 0)
-
-abbrev pub noSlots : WaitSlots
-noSlots = waitSlots (replicate 4 0) (atomSlots (replicate 16 0) (replicate 16 0) (replicate 64 (pos 0)) (replicate 16 (pos 0)))
-
--- the local values and the condition as it is given
-pub record Body : Type 0 where
-  pub locals : List ℤ
-  pub condition : List (List Given)
-
-abbrev pub numbers : ℕ → Reader Body
-numbers measures = do
-  l ← times locals value
-  g ← condition measures
-  pure (record { locals = l; condition = g })
-
-abbrev pub asWait : List ℕ → Read Body → Number
-asWait bytes (read b rest) = number.Got (length (b .condition)) (placeOf bytes rest)
-asWait bytes (refused k) = number.Refused k
-
-abbrev pub localsOf : Read Body → List ℤ
-localsOf (read b rest) = b .locals
-localsOf (refused k) = noLocals
-
-abbrev pub slotsOf : Read Body → WaitSlots
-slotsOf (read b rest) = putAlternatives 0 noSlots (b .condition)
-slotsOf (refused k) = noSlots
-
-abbrev pub ReadsWait : List ℕ → Read Body → Number → List ℤ → WaitSlots → Type 0
-ReadsWait bytes x r l s = (r ≡ asWait bytes x) × (l ≡ localsOf x) × (s ≡ slotsOf x)
+use Rattle.wire.specs.WaitSlots.{AtomSlots, atomSlots, putAtom, putAtoms, WaitSlots, waitSlots, putAlternative, putAlternatives, noLocals, noSlots, numbers, ReadsWait}
 
 -- ---- an atom, as the code reads it
 module _ {A : Type 0} (p : Reader A) (l : List ℕ) where

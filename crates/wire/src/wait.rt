@@ -7,7 +7,7 @@ ghost use lib.ListN.{length, drop};
 ghost use Rattle.rules.specs.Number.{times};
 ghost use Rattle.rules.specs.Record.{atom, counted};
 ghost use Rattle.wire.specs.Into.{Into};
-ghost use Rattle.wire.specs.Waits.{atomSlots, putAtom, putAtoms, waitSlots, putAlternatives, noLocals, noSlots, numbers, ReadsWait};
+ghost use Rattle.wire.specs.WaitSlots.{atomSlots, putAtom, putAtoms, waitSlots, putAlternatives, noLocals, noSlots, numbers, ReadsWait};
 use crate::numbers::clear;
 use crate::numbers::clear_bytes;
 use crate::numbers::read_numbers;

@@ -2,7 +2,7 @@
 use Prim.Native.Nat.{_≤_, _-_, _+_, _*_}
 use borrow.Author.Needs.{needs}
 use native.Mathlib.Omega.{arith}
-use Rattle.condition.specs.Closing.{StoredUpTo, put-none, put-more, put-all}
+use Rattle.condition.specs.StoredFrom.{StoredUpTo, put-none, put-more, put-all}
 use Rattle.ranks.specs.Words.{lowWord}
 use Rattle.filing.specs.Words.{highAt}
 use Rattle.filing.proofs.write_words.Statement.{statement}

@@ -10,7 +10,7 @@ abbrev slots : tie.Start → ClosedSlots
 slots c = closedSlots (c .args .alternatives .now) (c .args .atoms .now) (c .args .measure .now) (c .args .operator .now) (c .args .key .now)
 
 part-entry-requires : tie.Need-part-entry-requires
-part-entry-requires c κs = let s = c .before .before .before in (s .pre .0, s .pre .1 .1 .1 .distinct)
+part-entry-requires c κs = let s = c .before .before .before in (s .pre .0, s .pre .1 .1 .distinct)
 
 -- ---- from behind another
 returns : tie.Need-returns
@@ -18,7 +18,7 @@ returns c =
     let e = c .before .before in
     let s = e .before .before .before .before in
     let a = s .args in
-    let q = s .pre .1 .1 .1 in
+    let q = s .pre .1 .1 in
     follower-index (slots s) (a .ticket .now) (a .high .now) (a .low .now) (a .entry .now) _ (a .places .now) (a .lengths .now) (a .job) q (e .part-entry .ensures (conditionIn (slots s)) (q .entries)) (c .enum-told .given .1)
 
 -- ---- as the last of its entry
@@ -28,7 +28,7 @@ cut-nodes-requires c κs =
     let e = t .before .before in
     let s = e .before .before .before .before in
     let a = s .args in
-    let q = s .pre .1 .1 .1 in
+    let q = s .pre .1 .1 in
     ends-asks (slots s) (a .ticket .now) (a .high .now) (a .low .now) (a .entry .now) _ (a .places .now) (a .lengths .now) (a .job) q (e .part-entry .ensures (conditionIn (slots s)) (q .entries))
     (t .enum-told2 .given .1) (s .pre .1 .0)
 
@@ -39,7 +39,7 @@ returns-2 c =
     let e = t .before .before in
     let s = e .before .before .before .before in
     let a = s .args in
-    let q = s .pre .1 .1 .1 in
+    let q = s .pre .1 .1 in
     ends-index (slots s) (a .ticket .now) (a .high .now) (a .low .now) (a .entry .now) _ (a .places .now) (a .lengths .now) (a .job) q (e .part-entry .ensures (conditionIn (slots s)) (q .entries))
     (t .enum-told2 .given .1) _ _ (n .cut-nodes .ensures)
 
@@ -50,7 +50,7 @@ cut-nodes-requires-2 c κs =
     let e = o .before .before in
     let s = e .before .before .before .before in
     let a = s .args in
-    let q = s .pre .1 .1 .1 in
+    let q = s .pre .1 .1 in
     lead-asks (slots s) (a .ticket .now) (a .high .now) (a .low .now) (a .entry .now) _ (a .places .now) (a .lengths .now) (a .job) q (e .part-entry .ensures (conditionIn (slots s)) (q .entries))
     (o .parted .given .0 .0) (o .parted .given .1) (s .pre .1 .0)
 
@@ -62,7 +62,7 @@ returns-3 c =
     let e = o .before .before in
     let s = e .before .before .before .before in
     let a = s .args in
-    let q = s .pre .1 .1 .1 in
+    let q = s .pre .1 .1 in
     next-index (slots s) (a .ticket .now) (a .high .now) (a .low .now) (a .entry .now) _ (a .places .now) (a .lengths .now) (a .job) q (e .part-entry .ensures (conditionIn (slots s)) (q .entries))
     (o .parted .given .0 .0) (o .parted .given .1) _ _ (n .cut-nodes2 .ensures) _ _ (p .put-nodes .ensures)
 
@@ -73,7 +73,7 @@ put-nodes-requires c κs =
     let e = o .before .before in
     let s = e .before .before .before .before in
     let a = s .args in
-    let q = s .pre .1 .1 .1 in
+    let q = s .pre .1 .1 in
     next-asks (slots s) (a .ticket .now) (a .high .now) (a .low .now) (a .entry .now) _ (a .places .now) (a .lengths .now) (a .job) q (e .part-entry .ensures (conditionIn (slots s)) (q .entries))
     (o .parted .given .0 .0) (o .parted .given .1) _ _ (n .cut-nodes2 .ensures) (s .pre .1 .0)
 

@@ -16,7 +16,7 @@ use Rattle.rules.specs.Laws.In.{byBool}
 use Rattle.rules.specs.Laws.Readers.{Took}
 use Rattle.rules.specs.Demands.Answers.{Answers, every-event-is-answered}
 
-shorter : {bytes rest : List ℕ} → Took 2 bytes rest → length rest < length bytes
+pub shorter : {bytes rest : List ℕ} → Took 2 bytes rest → length rest < length bytes
 shorter {bytes} t = omega (arith, t .at-least, t .at-most, ap length (t .left), length-drop (t .count) bytes)
 
 module _ (n before : ℕ) (r q : Room) (rest : List ℕ) where

@@ -5,7 +5,8 @@ use borrow.Author.Needs.{needs}
 use native.Mathlib.Omega.{arith}
 use lib.ListN.{getD}
 use Rattle.integers.specs.Machine.{back}
-use Rattle.condition.specs.Closing.{keyAt, StoredUpTo, put-none, put-more, put-all}
+use Rattle.condition.specs.StoredFrom.{StoredUpTo, put-none, put-more, put-all}
+use Rattle.condition.specs.Closing.{keyAt}
 use Rattle.condition.proofs.closure.close_atoms.Statement.{statement}
 use Rattle.condition.proofs.closure.close_atoms.Tie as tie
 

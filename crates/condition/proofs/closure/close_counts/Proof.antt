@@ -4,7 +4,7 @@ use Prim.Native.Nat.{_≤_, _-_, _*_}
 use borrow.Author.Needs.{needs}
 use native.Mathlib.Omega.{arith}
 use lib.ListN.{getD}
-use Rattle.condition.specs.Closing.{StoredUpTo, put-none, put-more, put-all}
+use Rattle.condition.specs.StoredFrom.{StoredUpTo, put-none, put-more, put-all}
 use Rattle.condition.proofs.closure.close_counts.Statement.{statement}
 use Rattle.condition.proofs.closure.close_counts.Tie as tie
 

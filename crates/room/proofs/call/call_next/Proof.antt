@@ -3,7 +3,7 @@ use borrow.Author.Needs.{needs}
 use mathlib.Core.Path.{sym, _∙_}
 use native.Mathlib.Omega.{arith}
 use Rattle.condition.specs.Measures.{nowAt}
-use Rattle.room.specs.Calls.{indexed, calls-nobody, called-small, called-waits, calls-one}
+use Rattle.room.specs.Calls.{indexed, calls-nobody, called-small, calls-one}
 use Rattle.room.proofs.call.call_next.Statement.{statement}
 use Rattle.room.proofs.call.call_next.Tie as tie
 
@@ -19,7 +19,7 @@ part-requires c κs =
     let f = n .before .before in
     let s = f .before .before .before .before .before in
     let e = sym (n .answer .given .1) ∙ f .search .ensures (indexed _ (s .pre)) in
-    (called-small _ (s .pre) (nowAt (s .args .coefficients .now) (s .args .values .now)) _ _ e, ((λ k. omega (arith, s .pre .fit .measure k, s .pre .fit .few)), (called-waits _ (s .pre) (nowAt (s .args .coefficients .now) (s .args .values .now)) _ _ e, s .pre .index)))
+    (called-small _ (s .pre) (nowAt (s .args .coefficients .now) (s .args .values .now)) _ _ e, ((λ k. omega (arith, s .pre .fit .measure k, s .pre .fit .few)), s .pre .index))
 
 job-small : tie.Need-element-write-standing
 job-small c =

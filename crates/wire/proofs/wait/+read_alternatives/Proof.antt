@@ -7,7 +7,8 @@ use native.Mathlib.Omega.{arith}
 use Rattle.rules.specs.Record.{atom}
 use Rattle.rules.specs.Laws.WellFormed.{sound-atom, sound-counted}
 use Rattle.wire.specs.Into.{all-none}
-use Rattle.wire.specs.Waits.{putAlternative, alternatives-no-count, atoms-few, alternatives-no-atoms, row-within, alternatives-more}
+use Rattle.wire.specs.WaitSlots.{putAlternative}
+use Rattle.wire.specs.Waits.{alternatives-no-count, atoms-few, alternatives-no-atoms, row-within, alternatives-more}
 use Rattle.wire.proofs.wait.read_alternatives.Reads as read-alternatives
 use Rattle.wire.proofs.wait.read_alternatives.Kinds as read-alternatives-kinds
 use Rattle.wire.proofs.wait.+read_alternatives.Lts-read_alternatives as read-alternatives-lts

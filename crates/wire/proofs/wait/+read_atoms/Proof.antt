@@ -6,7 +6,8 @@ use borrow.Fn.PlainCycle.{Measures, is, falls, and}
 use native.Mathlib.Omega.{arith}
 use Rattle.rules.specs.Laws.WellFormed.{sound-atom}
 use Rattle.wire.specs.Into.{all-none}
-use Rattle.wire.specs.Waits.{putAtom, atoms-no, atoms-more, atom-within}
+use Rattle.wire.specs.WaitSlots.{putAtom}
+use Rattle.wire.specs.Waits.{atoms-no, atoms-more, atom-within}
 use Rattle.wire.proofs.wait.read_atoms.Reads as read-atoms
 use Rattle.wire.proofs.wait.read_atoms.Kinds as read-atoms-kinds
 use Rattle.wire.proofs.wait.+read_atoms.Lts-read_atoms as read-atoms-lts

@@ -3,7 +3,7 @@ use mathlib.Core.Path.{_∙_, ap}
 use borrow.Author.Needs.{needs}
 use lib.IntN.{pos}
 use lib.ListN.{replicate}
-use Rattle.wire.specs.Waits.{waitSlots, atomSlots}
+use Rattle.wire.specs.WaitSlots.{waitSlots, atomSlots}
 use Rattle.wire.proofs.wait.clear_wait.Statement.{statement}
 use Rattle.wire.proofs.wait.clear_wait.Tie as tie
 
