@@ -58,19 +58,40 @@ fn written(random: &mut Random) -> WrittenCondition {
     }
 }
 
-/// Closes what was given of a written condition into the slots of a job. Fails unless they, and all
-/// others, then hold what the second implementation's closure says.
-fn hold_together(
-    slots: &mut ClosedSlots,
-    given: &WaitSlots,
-    job: usize,
-    written: &WrittenCondition,
-    seed: u64,
-) {
-    let mut right = slots.clone();
-    put_clear(&mut right, job, &written.close());
-    close(slots, given, written.alternatives.len() as u8, job);
-    assert!(*slots == right, "seed {seed}, job {job}, {written:?}");
+/// The slots of all jobs as closure leaves them, and as they should be.
+struct Scene {
+    slots: ClosedSlots,
+    right: ClosedSlots,
+}
+
+impl Scene {
+    fn new(random: &mut Random) -> Self {
+        let slots = draw::slots(random);
+        let right = slots.clone();
+        Scene { slots, right }
+    }
+
+    /// Closes what was given of a written condition into the slots of a job. Fails unless they, and
+    /// all others, then hold what the second implementation's closure says.
+    fn hold_together(
+        &mut self,
+        given: &WaitSlots,
+        job: usize,
+        written: &WrittenCondition,
+        seed: u64,
+    ) {
+        put_clear(&mut self.right, job, &written.close());
+        close(
+            &mut self.slots,
+            given,
+            written.alternatives.len() as u8,
+            job,
+        );
+        assert!(
+            self.slots == self.right,
+            "seed {seed}, job {job}, {written:?}"
+        );
+    }
 }
 
 fn key(coefficients: [i64; 4], constant: i64, locals: [i64; 4]) -> i64 {
@@ -83,9 +104,9 @@ fn key(coefficients: [i64; 4], constant: i64, locals: [i64; 4]) -> i64 {
             constant,
         }]],
     };
-    let mut slots = draw::slots(&mut Random::new(0));
-    hold_together(&mut slots, &slots_of(&written), 0, &written, 0);
-    slots.key[0]
+    let mut scene = Scene::new(&mut Random::new(0));
+    scene.hold_together(&slots_of(&written), 0, &written, 0);
+    scene.slots.key[0]
 }
 
 #[test]
@@ -107,11 +128,11 @@ fn into_the_slots_of_every_job_over_anything() {
     let mut seen = Seen::default();
     for seed in FIRST_SEED..FIRST_SEED + TRIALS {
         let mut random = Random::new(seed);
-        let mut slots = draw::slots(&mut random);
+        let mut scene = Scene::new(&mut random);
         for job in 0..JOBS {
             let written = written(&mut random);
-            hold_together(&mut slots, &slots_of(&written), job, &written, seed);
-            seen.add(&slots, job, &written);
+            scene.hold_together(&slots_of(&written), job, &written, seed);
+            seen.add(&scene.slots, job, &written);
         }
     }
     assert!(seen.everything_more_often_than(TRIALS), "{seen:?}");
@@ -121,11 +142,11 @@ fn into_the_slots_of_every_job_over_anything() {
 fn over_the_condition_that_the_job_had() {
     for seed in FIRST_SEED..FIRST_SEED + TRIALS / 10 {
         let mut random = Random::new(seed);
-        let mut slots = draw::slots(&mut random);
+        let mut scene = Scene::new(&mut random);
         let job = random.below(JOBS);
         for _ in 0..8 {
             let written = written(&mut random);
-            hold_together(&mut slots, &slots_of(&written), job, &written, seed);
+            scene.hold_together(&slots_of(&written), job, &written, seed);
         }
     }
 }
@@ -146,9 +167,9 @@ fn what_was_read_is_closed() {
         let mut given = WaitSlots::CLEAR;
         let count = wait(&mut given, &bytes, 2, MEASURES_MOST as u8);
         assert_eq!(count.value, condition.alternatives.len() as u64);
-        let mut slots = draw::slots(&mut random);
-        hold_together(&mut slots, &given, job, &condition, seed);
-        seen.add(&slots, job, &condition);
+        let mut scene = Scene::new(&mut random);
+        scene.hold_together(&given, job, &condition, seed);
+        seen.add(&scene.slots, job, &condition);
     }
     assert!(seen.everything_more_often_than(TRIALS / 100), "{seen:?}");
 }

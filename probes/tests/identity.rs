@@ -10,22 +10,49 @@ use second::random::Random;
 const PAIRS: u64 = 40_000;
 const FIRST_SEED: u64 = 10_000_000;
 
-/// Puts two conditions into the slots of two jobs. What stands past the counts of the first may
-/// also stand past those of the second.
-fn put_both(
-    random: &mut Random,
-    one: &Condition,
-    other: &Condition,
-) -> (ClosedSlots, usize, usize) {
-    let mut slots = draw::slots_in_range(random);
-    let first = random.below(JOBS);
-    let second = (first + 1 + random.below(JOBS - 1)) % JOBS;
-    put(&mut slots, first, one);
-    if random.once_in(2) {
-        copy(&mut slots, first, second);
+/// Numbers drawn, and slots that two conditions after two are put into. The slots are drawn anew
+/// now and then.
+struct Scene {
+    random: Random,
+    slots: ClosedSlots,
+}
+
+impl Scene {
+    fn new(seed: u64) -> Self {
+        let mut random = Random::new(FIRST_SEED + seed);
+        let slots = draw::slots_in_range(&mut random);
+        Scene { random, slots }
     }
-    put(&mut slots, second, other);
-    (slots, first, second)
+
+    /// Puts two conditions into the slots of two jobs. What stands past the counts of the first may
+    /// also stand past those of the second.
+    fn put_both(&mut self, one: &Condition, other: &Condition) -> (usize, usize) {
+        let Scene { random, slots } = self;
+        if random.once_in(16) {
+            *slots = draw::slots_in_range(random);
+        }
+        let first = random.below(JOBS);
+        let second = (first + 1 + random.below(JOBS - 1)) % JOBS;
+        put(slots, first, one);
+        if random.once_in(2) {
+            copy(slots, first, second);
+        }
+        put(slots, second, other);
+        (first, second)
+    }
+
+    /// Whether the two are identical. Fails unless both implementations say the same, in either
+    /// order.
+    fn hold_together(&mut self, one: &Condition, other: &Condition) -> bool {
+        let (first, second) = self.put_both(one, other);
+        let slots = &self.slots;
+        let right = one == other;
+        let told = || format!("jobs {first} and {second}, {one:?}, {other:?}");
+        assert_eq!(are_identical(slots, first, second), right, "{}", told());
+        assert_eq!(are_identical(slots, second, first), right, "{}", told());
+        assert!(are_identical(slots, first, first), "{}", told());
+        right
+    }
 }
 
 fn copy(slots: &mut ClosedSlots, from: usize, to: usize) {
@@ -39,27 +66,16 @@ fn copy(slots: &mut ClosedSlots, from: usize, to: usize) {
     slots.key.copy_within(atoms, slot);
 }
 
-/// Whether the two are identical. Fails unless both implementations say the same, in either order.
-fn hold_together(random: &mut Random, one: &Condition, other: &Condition) -> bool {
-    let (slots, first, second) = put_both(random, one, other);
-    let right = one == other;
-    let told = || format!("jobs {first} and {second}, {one:?}, {other:?}");
-    assert_eq!(are_identical(&slots, first, second), right, "{}", told());
-    assert_eq!(are_identical(&slots, second, first), right, "{}", told());
-    assert!(are_identical(&slots, first, first), "{}", told());
-    right
-}
-
 /// Holds conditions against what one change leaves of each. The change says false where it can't be
 /// made. Most pairs must differ.
 fn differ_by(seed: u64, change: impl Fn(&mut Random, &mut Condition) -> bool) {
-    let mut random = Random::new(FIRST_SEED + seed);
+    let mut scene = Scene::new(seed);
     let mut seen = [0; 2];
     while seen[0] + seen[1] < PAIRS {
-        let one = draw::condition(&mut random);
+        let one = draw::condition(&mut scene.random);
         let mut other = one.clone();
-        if change(&mut random, &mut other) {
-            let same = hold_together(&mut random, &one, &other);
+        if change(&mut scene.random, &mut other) {
+            let same = scene.hold_together(&one, &other);
             seen[usize::from(same)] += 1;
         }
     }
@@ -193,10 +209,10 @@ fn where_an_alternative_ends() {
 
 #[test]
 fn equal_whatever_stands_past_the_counts() {
-    let mut random = Random::new(FIRST_SEED + 9);
+    let mut scene = Scene::new(9);
     for _ in 0..PAIRS {
-        let condition = draw::condition(&mut random);
-        assert!(hold_together(&mut random, &condition, &condition));
+        let condition = draw::condition(&mut scene.random);
+        assert!(scene.hold_together(&condition, &condition));
     }
 }
 
@@ -219,11 +235,11 @@ fn random_pairs_of_few_atoms() {
         }
         Condition::new(alternatives)
     };
-    let mut random = Random::new(FIRST_SEED + 10);
+    let mut scene = Scene::new(10);
     let mut seen = [0; 2];
     for _ in 0..PAIRS * 5 {
-        let (one, other) = (few(&mut random), few(&mut random));
-        let same = hold_together(&mut random, &one, &other);
+        let (one, other) = (few(&mut scene.random), few(&mut scene.random));
+        let same = scene.hold_together(&one, &other);
         seen[usize::from(same)] += 1;
     }
     assert!(seen.iter().all(|times| *times > PAIRS / 10), "{seen:?}");

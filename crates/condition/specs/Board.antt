@@ -1,5 +1,5 @@
--- The starred examples about closure and tags, for the functions of this crate: each by its contract's definition, at slots that hold the
--- example.
+-- The starred examples about closure and tags, for the functions of `closing` and of this crate: each by its contract's definition, at slots
+-- that hold the example.
 use mathlib.Core.Path.{_≡_, refl}
 use mathlib.Core.List.{List, [], _∷_, map}
 use mathlib.Core.Option.{Option, none, some}

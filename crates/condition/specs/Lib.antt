@@ -1,4 +1,4 @@
--- Conditions in lent arrays, and the laws that the proofs cite.
+-- Conditions in lent arrays, and the laws that the proofs cite, here and in `identity` and `closing`.
 pub mod Compare
 pub mod Measures
 pub mod From
@@ -7,7 +7,6 @@ pub mod Closed
 pub mod Along
 pub mod Truth
 pub mod Tags
-pub mod Identity
 pub mod Closing
 pub mod Closes
 pub mod Board

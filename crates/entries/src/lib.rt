@@ -14,7 +14,7 @@ ghost use Rattle.entries.specs.Renames.{renamed, Renamed};
 ghost use Rattle.entries.specs.Oldest.{chosen, oldestOf};
 ghost use Rattle.entries.specs.Joins.{JoinedTo};
 ghost use Rattle.entries.specs.Parts.{PartedFrom};
-use condition::identity::same_condition;
+use identity::same_condition;
 
 pub enum Joined {
     Alone,

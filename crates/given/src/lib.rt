@@ -6,7 +6,7 @@ ghost use Rattle.condition.specs.Measures.{nowAt};
 ghost use Rattle.condition.specs.Closing.{givenSlots};
 ghost use Rattle.condition.specs.Closes.{givenCondition};
 ghost use Rattle.given.specs.Givens.{GivenRanges, closedAt};
-use condition::closure::key_of;
+use closing::key_of;
 use condition::compare::compare;
 use condition::measure::measure_of;
 use condition::truth::count_of;

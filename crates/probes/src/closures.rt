@@ -4,7 +4,7 @@ ghost use Prim.Native.Nat.{_<_};
 ghost use Rattle.rules.specs.Limits.{coefficientMost, valueMost};
 ghost use Rattle.condition.specs.Measures.{AllIn};
 ghost use Rattle.condition.specs.Closing.{closedSlots, givenSlots, putClosed};
-use condition::closure::close;
+use closing::close;
 
 #[no_mangle]
 pub extern "C" fn probe_close(

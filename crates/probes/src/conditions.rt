@@ -9,10 +9,10 @@ ghost use Rattle.rules.specs.Condition.{compares, alternativeTrue, conditionTru
 ghost use Rattle.condition.specs.Measures.{AllIn, Ranges, nowAt};
 ghost use Rattle.condition.specs.Closed.{alternativeAt, conditionAt};
 use condition::compare::compare;
-use condition::identity::same_condition;
 use condition::measure::measure_of;
 use condition::truth::alternative_true;
 use condition::truth::condition_true;
+use identity::same_condition;
 
 #[no_mangle]
 pub extern "C" fn probe_compare(operator: u8, value: i64, key: i64) -> bool

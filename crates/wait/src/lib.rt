@@ -12,7 +12,7 @@ ghost use Rattle.condition.specs.Closes.{givenCondition};
 ghost use Rattle.room.specs.Arrays.{arrays};
 ghost use Rattle.room.specs.Kept.{Sound};
 ghost use Rattle.wait.specs.Waits.{GivenFit, Waited};
-use condition::closure::close;
+use closing::close;
 use filing::write_words;
 use given::given_true;
 use index::join;
