@@ -2,6 +2,7 @@
 use mathlib.Core.Path.{_≡_}
 use Prim.Native.Nat.{_≤_, _-_}
 use borrow.Author.Needs.{needs}
+use native.Mathlib.Omega.{arith}
 use Rattle.rules.specs.Base.{each}
 use Rattle.rules.specs.Condition.{sameAtom}
 use Rattle.condition.specs.Along.{eachLeft, each-more, each-stop, each-done}
@@ -20,8 +21,13 @@ Inv-loop atoms measure operator key one other count other-count first second i�
 abbrev μ-loop : tie.MeasureT-loop
 μ-loop atoms measure operator key one other count other-count first second i₀ i = count - i
 
+loop-again : tie.Need-loop-again Inv-loop μ-loop
+loop-again c =
+    let l = c .before .before .before .loop in
+    (l .inv .0, omega arith, each-more _ _ _ _ _ _ (l .i) (c .before .before .loop-test .taken) (l .inv .2) (c .before .same-atom .ensures) (c .if2 .taken))
+
 pub same-alternative-spec : {M : Type 1} → statement M
 same-alternative-spec =
     tie.close
     (tie.spec Inv-loop μ-loop (λ c. search laws) (λ c κs. search laws) (λ c. search laws) (λ c κs. search laws) (λ c. search laws) (λ c. search laws) (λ c. search laws)
-    (λ c. search laws) (λ c. search laws) (λ c. search laws) (λ c κs. search laws) (λ c. search laws) (λ c. search laws) (λ c. search laws) (λ c. search laws) (λ c. search laws))
+    (λ c. search laws) (λ c. search laws) (λ c. search laws) (λ c κs. search laws) (λ c. search laws) (λ c. search laws) loop-again (λ c. search laws) (λ c. search laws))
