@@ -8,3 +8,4 @@ pub mod Answers
 pub mod Searches
 pub mod Reached
 pub mod Listings
+pub mod Writes

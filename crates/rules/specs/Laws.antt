@@ -12,4 +12,9 @@ pub mod Moves
 pub mod Bounds
 pub mod Cases
 pub mod Readers
+pub mod Groups
+pub mod Halves
+pub mod FieldHalves
+pub mod Written
+pub mod WrittenEvents
 pub mod WellFormed

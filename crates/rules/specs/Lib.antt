@@ -10,6 +10,7 @@ pub mod Room
 pub mod Search
 pub mod Step
 pub mod Record
+pub mod Writer
 pub mod Tally
 pub mod Listing
 pub mod Examples
