@@ -1,0 +1,5 @@
+-- What the proofs of the writer cite.
+pub mod Numbers
+pub mod Puts
+pub mod Rows
+pub mod Givens
