@@ -60,15 +60,15 @@ counted-as w f n p {out} {out′} {at} {r} q = subst (λ k. Puts (writeField 4 1
 pub atoms-as : {A : Type 0} (w : A → Written) (f : ℕ → A) (p : ℕ) {n m : ℕ} {out out′ : List ℕ} {at : ℕ} {r : Place} → n ≡ m → Puts (all-written w (from f n p)) out out′ at r → Puts (all-written w (from f m p)) out out′ at r
 atoms-as w f p {n} {m} {out} {out′} {at} {r} e q = subst (λ k. Puts (all-written w (from f k p)) out out′ at r) e q
 
+pub rows-all-short : {A : Type 0} (w : A → Written) (m : ℕ) (f : ℕ → A) → ((k : ℕ) (l : List ℕ) → w (f k) ≡ written l → length l ≤ m) → (n p : ℕ) (l : List ℕ) → all-written w (from f n p) ≡ written l → length l ≤ n * m
+rows-all-short w m f short zero p l e = omega (arith, ap length (written-same e))
+rows-all-short w m f short (suc n) p l e =
+    let s = both-written (w (f p)) (all-written w (from f n (suc p))) e in
+    rw (suc-mul n m) (omega (arith, short p (s .0) (s .2), rows-all-short w m f short n (suc p) (s .1) (s .3), length-append (s .0) (s .1), ap length (s .4)))
+
 pub counted-short : {A : Type 0} (w : A → Written) (m : ℕ) (f : ℕ → A) → ((k : ℕ) (l : List ℕ) → w (f k) ≡ written l → length l ≤ m) → (n p : ℕ) (l : List ℕ) → writeCounted w (from f n p) ≡ written l → length l ≤ 5 + 4 * m
 counted-short w m f short n p l e =
     let s = both-written (writeField 4 1 4 (length (from f n p))) (all-written w (from f n p)) e in
     let few = field-range 4 1 4 (length (from f n p)) (s .0) (s .2) .1 in
     let four : n * m ≤ 4 * m = mul-le-mul (omega (arith, few, from-many f n p)) (le-refl m) in
-    omega (arith, only-short (leb 1 (length (from f n p)) && leb (length (from f n p)) 4) 4 (length (from f n p)) (s .0) (s .2), row-short n p (s .1) (s .3), four, length-append (s .0) (s .1), ap length (s .4))
-  where
-    row-short : (n p : ℕ) (l : List ℕ) → all-written w (from f n p) ≡ written l → length l ≤ n * m
-    row-short zero p l e = omega (arith, ap length (written-same e))
-    row-short (suc n) p l e =
-        let s = both-written (w (f p)) (all-written w (from f n (suc p))) e in
-        rw (suc-mul n m) (omega (arith, short p (s .0) (s .2), row-short n (suc p) (s .1) (s .3), length-append (s .0) (s .1), ap length (s .4)))
+    omega (arith, only-short (leb 1 (length (from f n p)) && leb (length (from f n p)) 4) 4 (length (from f n p)) (s .0) (s .2), rows-all-short w m f short n p (s .1) (s .3), four, length-append (s .0) (s .1), ap length (s .4))
