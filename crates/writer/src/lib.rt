@@ -1,9 +1,9 @@
-// Records written (document 02, §1): the other half of `wire`.
-pub mod conditions;
-pub mod events;
-pub mod field;
-pub mod number;
-pub mod numbers;
-pub mod openings;
+// Records written (document 02, §1): the other half of `wire`. `records` is what others call; the rest makes a record, field by field.
+mod conditions;
+mod events;
+mod field;
+mod number;
+mod numbers;
+mod openings;
 pub mod records;
-pub mod whole;
+mod whole;
