@@ -66,19 +66,19 @@ writeCounted w l = writeField 4 1 partsMost (length l) then all-written w l
 abbrev pub writeOpening : List (List ℤ) → List ℤ → Written
 writeOpening measures values = writeField 4 1 measuresMost (length measures) then all-written (all-written writeCoefficient) measures then all-written writeValue values
 
-abbrev pub kindOf : Event → ℕ
-kindOf (arrive job) = 1
-kindOf (admit job) = 2
-kindOf (assign job v x) = 3
-kindOf (wait job l g) = 4
-kindOf (leave job) = 5
+abbrev pub eventKind : Event → ℕ
+eventKind (arrive job) = 1
+eventKind (admit job) = 2
+eventKind (assign job v x) = 3
+eventKind (wait job l g) = 4
+eventKind (leave job) = 5
 
-abbrev pub jobOf : Event → ℕ
-jobOf (arrive job) = job
-jobOf (admit job) = job
-jobOf (assign job v x) = job
-jobOf (wait job l g) = job
-jobOf (leave job) = job
+abbrev pub eventJob : Event → ℕ
+eventJob (arrive job) = job
+eventJob (admit job) = job
+eventJob (assign job v x) = job
+eventJob (wait job l g) = job
+eventJob (leave job) = job
 
 module _ (measures : ℕ) where
   abbrev pub writeAtom : Given → Written
@@ -95,7 +95,7 @@ module _ (measures : ℕ) where
   writeRest (leave job) = written []
 
   abbrev pub writeFields : Event → Written
-  writeFields e = writeField 3 1 kindMost (kindOf e) then writeBelow jobs (jobOf e) then writeRest e
+  writeFields e = writeField 3 1 kindMost (eventKind e) then writeBelow jobs (eventJob e) then writeRest e
 
   -- for a room with this many measures: refusal 4 for their number, before any field
   abbrev pub writeEvent : Event → Written

@@ -12,11 +12,11 @@ use mir.Val.{toZ, ofZ}
 use borrow.Author.Tests.{leb-true, le-leb, lt-leb}
 use Rattle.rules.specs.Base.{if_then_else_}
 use Rattle.rules.specs.Step.{Event, assign}
-use Rattle.rules.specs.Writer.{Written, written, unwritten, _then_, writeField, writeBelow, kindOf, jobOf, writeRest, writeEvent}
+use Rattle.rules.specs.Writer.{Written, written, unwritten, _then_, writeField, writeBelow, eventKind, eventJob, writeRest, writeEvent}
 use Rattle.rules.specs.Laws.In.{both}
-use Rattle.rules.specs.Laws.Halves.{written-not}
+use Rattle.rules.specs.Laws.Halves.{written-not, written-if}
 use Rattle.integers.specs.Machine.{back}
-use Rattle.writer.specs.Puts.{Puts, placeAfter, only-short, both-short}
+use Rattle.writer.specs.Puts.{Puts, placeAfter, both-false, only-short, both-short}
 use Rattle.wire.specs.declared.place.Place.{Place}
 use Rattle.wire.specs.declared.place.Place.the-variants.{Refused}
 
@@ -38,8 +38,8 @@ head-then : (t : Bool) (u v w : Written) → ((if t then (u then v) else unwritt
 head-then true u v w = then-assoc u v w
 head-then false u v w = refl
 
-pub event-parts : (measures : ℕ) (e : Event) → (writeHead measures (kindOf e) (jobOf e) then writeRest measures e) ≡ writeEvent measures e
-event-parts measures e = head-then (leb 1 measures && leb measures 16) (writeField 3 1 5 (kindOf e)) (writeBelow 32 (jobOf e)) (writeRest measures e)
+pub event-parts : (measures : ℕ) (e : Event) → (writeHead measures (eventKind e) (eventJob e) then writeRest measures e) ≡ writeEvent measures e
+event-parts measures e = head-then (leb 1 measures && leb measures 16) (writeField 3 1 5 (eventKind e)) (writeBelow 32 (eventJob e)) (writeRest measures e)
 
 -- ---- by the code's tests
 module _ (out : List ℕ) (measures kind job : ℕ) where
@@ -53,10 +53,6 @@ module _ (out : List ℕ) (measures kind job : ℕ) where
 
   pub head-many : 16 < measures → Puts (writeHead measures kind job) out out 0 (Refused 4)
   head-many h = refused-head (ap (λ t. leb 1 measures && t) (lt-leb measures 16 h) ∙ both-false (leb 1 measures))
-    where
-      both-false : (t : Bool) → (t && false) ≡ false
-      both-false true = refl
-      both-false false = refl
 
   pub head-put : {out′ : List ℕ} {r : Place} → 1 ≤ measures → measures ≤ 16 → Puts (writeField 3 1 5 kind then writeBelow 32 job) out out′ 0 r → Puts (writeHead measures kind job) out out′ 0 r
   head-put {out′} {r} some few p =
@@ -64,21 +60,17 @@ module _ (out : List ℕ) (measures kind job : ℕ) where
       subst (λ t. Puts (if t then (writeField 3 1 5 kind then writeBelow 32 job) else unwritten 4) out out′ 0 r) (sym good) p
 
 -- a whole event, of its head and the rest; and of the head alone
-pub event-put : (measures : ℕ) (e : Event) {out out′ : List ℕ} {r : Place} → Puts (writeHead measures (kindOf e) (jobOf e) then writeRest measures e) out out′ 0 r → Puts (writeEvent measures e) out out′ 0 r
+pub event-put : (measures : ℕ) (e : Event) {out out′ : List ℕ} {r : Place} → Puts (writeHead measures (eventKind e) (eventJob e) then writeRest measures e) out out′ 0 r → Puts (writeEvent measures e) out out′ 0 r
 event-put measures e {out} {out′} {r} p = subst (λ w. Puts w out out′ 0 r) (event-parts measures e) p
 
-pub bare-put : (measures : ℕ) (e : Event) → writeRest measures e ≡ written [] → {out out′ : List ℕ} {r : Place} → Puts (writeHead measures (kindOf e) (jobOf e)) out out′ 0 r → Puts (writeEvent measures e) out out′ 0 r
+pub bare-put : (measures : ℕ) (e : Event) → writeRest measures e ≡ written [] → {out out′ : List ℕ} {r : Place} → Puts (writeHead measures (eventKind e) (eventJob e)) out out′ 0 r → Puts (writeEvent measures e) out out′ 0 r
 bare-put measures e bare {out} {out′} {r} p =
-    event-put measures e (subst (λ w. Puts w out out′ 0 r) (sym (ap (λ x. writeHead measures (kindOf e) (jobOf e) then x) bare ∙ then-nil (writeHead measures (kindOf e) (jobOf e)))) p)
+    event-put measures e (subst (λ w. Puts w out out′ 0 r) (sym (ap (λ x. writeHead measures (eventKind e) (eventJob e) then x) bare ∙ then-nil (writeHead measures (eventKind e) (eventJob e)))) p)
 
 -- ---- what a head that was put tells
-written-head : (t : Bool) (w : Written) {l : List ℕ} → (if t then w else unwritten 4) ≡ written l → (t ≡ true) × (w ≡ written l)
-written-head true w e = (refl, e)
-written-head false w e = written-not e
-
 module _ (measures kind job : ℕ) (l : List ℕ) (e : writeHead measures kind job ≡ written l) where
   abbrev told : ((leb 1 measures && leb measures 16) ≡ true) × ((writeField 3 1 5 kind then writeBelow 32 job) ≡ written l)
-  told = written-head (leb 1 measures && leb measures 16) (writeField 3 1 5 kind then writeBelow 32 job) e
+  told = written-if (leb 1 measures && leb measures 16) 4 (writeField 3 1 5 kind then writeBelow 32 job) e
 
   pub head-few : measures ≤ 16
   head-few = leb-true measures 16 (both (leb 1 measures) (leb measures 16) (told .0) .1)

@@ -54,7 +54,7 @@ module _ (out : List ℕ) (at refusal n : ℕ) where
   }
 
 -- ---- by the code's tests
-both-false : (t : Bool) → (t && false) ≡ false
+pub both-false : (t : Bool) → (t && false) ≡ false
 both-false true = refl
 both-false false = refl
 

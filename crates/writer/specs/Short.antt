@@ -8,7 +8,7 @@ use lib.Dec.{leb, ltb}
 use lib.IntN.{ℤ, pos}
 use lib.ListN.{getD, length, length-append}
 use Rattle.rules.specs.Step.{Event, arrive, admit, assign, wait, leave}
-use Rattle.rules.specs.Writer.{written, all-written, writeField, writeBelow, writeCoefficient, writeValue, writeCounted, writeAtom, writeCondition, kindOf, jobOf, writeRest, writeEvent, writeOpening}
+use Rattle.rules.specs.Writer.{written, all-written, writeField, writeBelow, writeCoefficient, writeValue, writeCounted, writeAtom, writeCondition, eventKind, eventJob, writeRest, writeEvent, writeOpening}
 use Rattle.rules.specs.Laws.Halves.{written-same, both-written}
 use Rattle.condition.specs.From.{from, from-many}
 use Rattle.writer.specs.Puts.{only-short, both-short, all-short, signed-short}
@@ -17,7 +17,7 @@ use Rattle.writer.specs.Events.{writeHead, head-short, event-parts}
 use Rattle.writer.specs.Openings.{rowGiven, valuesGiven}
 
 event-short : (measures k : ℕ) (e : Event) → ((l : List ℕ) → writeRest measures e ≡ written l → length l ≤ k) → (l : List ℕ) → writeEvent measures e ≡ written l → length l ≤ 10 + k
-event-short measures k e short l d = both-short 10 k (writeHead measures (kindOf e) (jobOf e)) (writeRest measures e) (head-short measures (kindOf e) (jobOf e)) short l (event-parts measures e ∙ d)
+event-short measures k e short l d = both-short 10 k (writeHead measures (eventKind e) (eventJob e)) (writeRest measures e) (head-short measures (eventKind e) (eventJob e)) short l (event-parts measures e ∙ d)
 
 none-short : (l : List ℕ) → written [] ≡ written l → length l ≤ 0
 none-short l e = omega (arith, ap length (written-same e))

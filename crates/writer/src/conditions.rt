@@ -8,8 +8,8 @@ ghost use Rattle.writer.specs.Givens.{atomIn, alternativeGiven, conditio
 use crate::field::put_below;
 use crate::field::put_field;
 use crate::field::put_signed;
-use crate::field::wide;
 use crate::numbers::put_numbers;
+use fields::number::wide;
 use wire::place::Place;
 
 fn put_atom(

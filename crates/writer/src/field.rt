@@ -1,5 +1,4 @@
 // Fields of a record that is being made. A number out of its range is refused as the reader refuses it, and nothing is stored.
-ghost use mathlib.Core.Path.{_≡_};
 ghost use Prim.Native.Nat.{_+_, _<_, _≤_};
 ghost use lib.ListN.{length};
 ghost use Rattle.rules.specs.Writer.{writeField, writeBelow, writeSigned};
@@ -7,12 +6,6 @@ ghost use Rattle.writer.specs.Puts.{Puts};
 use crate::number::put_number;
 use integers::unsigned_of;
 use wire::place::Place;
-
-pub fn wide(x: u8) -> u64
-    ensures { λ r. ⌜ r ≡ x ⌝ }
-{
-    x as u64
-}
 
 pub fn put_field(out: &mut [u8], at: usize, n: u64, low: u64, high: u64, refusal: u8) -> Place
     requires { ⌜ at + 5 ≤ length (now out) ⌝ ∗ ⌜ high < 4_294_967_296 ⌝ }

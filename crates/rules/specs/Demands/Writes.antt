@@ -1,6 +1,6 @@
 -- "What it writes, the reader reads back as the same record; what the reader accepts and the writer writes again is the same bytes" (document 02, §1).
-use mathlib.Core.Path.{_≡_, refl, sym, ap, _∙_}
-use mathlib.Core.Bool.{Bool, true, false, _&&_}
+use mathlib.Core.Path.{_≡_, ap, _∙_}
+use mathlib.Core.Bool.{true, _&&_}
 use mathlib.Core.List.{List, _++_}
 use Prim.Native.Nat.{ℕ, _≤_}
 use native.Mathlib.Omega.{arith}
@@ -16,7 +16,7 @@ use Rattle.rules.specs.Writer.{Written, written, unwritten, writeFields,
 use Rattle.rules.specs.Laws.Bounds.{Each}
 use Rattle.rules.specs.Laws.In.{both}
 use Rattle.rules.specs.Laws.Groups.{Byte}
-use Rattle.rules.specs.Laws.Halves.{written-not}
+use Rattle.rules.specs.Laws.Halves.{written-if}
 use Rattle.rules.specs.Laws.Written.{OpeningShape, halves-opening}
 use Rattle.rules.specs.Laws.WrittenEvents.{EventShape, halves-event}
 
@@ -31,14 +31,9 @@ pub opening-written-again : (bytes : List ℕ) → Each Byte bytes → (r : Room
 opening-written-again bytes each r rest d = let s = halves-opening .stood bytes each r rest d in (s .front, s .writes, s .is)
 
 module _ (measures : ℕ) where
-  -- the number of measures was good
-  written-fields : (t : Bool) (w : Written) {l : List ℕ} → (if t then w else unwritten 4) ≡ written l → (t ≡ true) × (w ≡ written l)
-  written-fields true w e = (refl, e)
-  written-fields false w e = written-not e
-
   pub event-reads-back : (e : Event) → EventShape e → (l : List ℕ) → writeEvent measures e ≡ written l → (rest : List ℕ) → event measures (l ++ rest) ≡ read e rest
   event-reads-back e s l d rest =
-      let w = written-fields (leb 1 measures && leb measures measuresMost) (writeFields measures e) d in
+      let w = written-if (leb 1 measures && leb measures measuresMost) 4 (writeFields measures e) d in
       let few = leb-true measures measuresMost (both (leb 1 measures) (leb measures measuresMost) (w .0) .1) in
       halves-event measures (omega (arith, few)) .back e s l (w .1) rest
 

@@ -13,11 +13,10 @@ use Rattle.rules.specs.Laws.Cases.{byEq}
 use Rattle.rules.specs.Laws.In.{both}
 use Rattle.rules.specs.Laws.Readers.{read-refused, read-same}
 use Rattle.rules.specs.Laws.Groups.{after-read, number-back, number-stood}
-use Rattle.rules.specs.Laws.Halves.{Halves, written-same, written-not, halves-same, halves-any}
+use Rattle.rules.specs.Laws.Halves.{Halves, written-same, halves-same, halves-any, written-if}
 
 pub passes : (u : Bool) (refusal n : ℕ) (l : List ℕ) → writeOnly u refusal n ≡ written l → u ≡ true
-passes true refusal n l e = refl
-passes false refusal n l e = written-not e
+passes u refusal n l e = written-if u refusal (written (numberBytes n)) e .0
 
 module _ {A : Type 0} (code : A → ℕ) (means : ℕ → A) (t : A → Bool) (refusal : ℕ) (small : (a : A) → t a ≡ true → code a < 4_294_967_296) (coded : (a : A) → means (code a) ≡ a)
     (meant : (n : ℕ) → code (means n) ≡ n) where

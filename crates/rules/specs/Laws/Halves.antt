@@ -1,10 +1,12 @@
 -- Reader and writer of one form are its two halves: what is written reads back, whatever follows, and what was read is written as it stood. One law for each
 -- way of making the two.
 use mathlib.Core.Path.{_≡_, refl, sym, ap, _∙_, subst}
+use mathlib.Core.Bool.{Bool, true, false}
 use mathlib.Core.List.{List, [], _∷_, _++_, append-assoc}
 use Prim.Native.Nat.{ℕ, zero, suc, _+_}
 use native.Mathlib.Omega.{arith}
 use lib.ListN.{length}
+use Rattle.rules.specs.Base.{if_then_else_}
 use Rattle.rules.specs.Number.{read, Reader, pure, after, _>>=_, times}
 use Rattle.rules.specs.Writer.{Written, written, unwritten, _then_, all-written}
 use Rattle.rules.specs.Laws.Bounds.{Each}
@@ -29,6 +31,11 @@ written-same e = cc
 
 pub written-not : {B : Type 0} {l : List ℕ} {k : ℕ} → unwritten k ≡ written l → B
 written-not e = let z : _≡_ {A = ℕ} 0 1 = cc in absurd (omega arith)
+
+-- what stands behind a test was written, so it passed
+pub written-if : (t : Bool) (k : ℕ) (w : Written) {l : List ℕ} → (if t then w else unwritten k) ≡ written l → (t ≡ true) × (w ≡ written l)
+written-if true k w e = (refl, e)
+written-if false k w e = written-not e
 
 pub both-written : (v w : Written) {l : List ℕ} → (v then w) ≡ written l → (m : List ℕ) × (n : List ℕ) × (v ≡ written m) × (w ≡ written n) × (m ++ n ≡ l)
 both-written (written m) (written n) e = (m, n, refl, refl, written-same e)

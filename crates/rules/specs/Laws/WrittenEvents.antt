@@ -13,7 +13,7 @@ use Rattle.rules.specs.Number.{Reader, pure, _>>=_, times, field, below}
 use Rattle.rules.specs.Condition.{Given}
 use Rattle.rules.specs.Step.{Event, arrive, admit, assign, wait, leave}
 use Rattle.rules.specs.Record.{value, condition, ofKind, event}
-use Rattle.rules.specs.Writer.{Written, written, _then_, all-written, writeField, writeBelow, writeValue, kindOf, jobOf, writeCondition, writeRest, writeFields}
+use Rattle.rules.specs.Writer.{Written, written, _then_, all-written, writeField, writeBelow, writeValue, eventKind, eventJob, writeCondition, writeRest, writeFields}
 use Rattle.rules.specs.Laws.Halves.{Halves, Many, halves-pure, halves-same, halves-writer, halves-then, halves-last, halves-times}
 use Rattle.rules.specs.Laws.FieldHalves.{halves-range, halves-below}
 use Rattle.rules.specs.Laws.Written.{Any, halves-value, ConditionShape, halves-condition}
@@ -28,10 +28,10 @@ EventShape (leave job) = Unit {0}
 module _ (measures : ℕ) (few : measures < 4_294_967_296) where
   -- of this kind and job
   abbrev Kind : ℕ → ℕ → Event → Type 0
-  Kind kind job e = (EventShape e × (kindOf e ≡ kind)) × (jobOf e ≡ job)
+  Kind kind job e = (EventShape e × (eventKind e ≡ kind)) × (eventJob e ≡ job)
 
   -- a record of kind and job alone
-  halves-bare : (make : ℕ → Event) (kind job : ℕ) → ((e : Event) → kindOf e ≡ kind → make (jobOf e) ≡ e) → ((j : ℕ) → (EventShape (make j) × (kindOf (make j) ≡ kind)) × (jobOf (make j) ≡ j)) →
+  halves-bare : (make : ℕ → Event) (kind job : ℕ) → ((e : Event) → eventKind e ≡ kind → make (eventJob e) ≡ e) → ((j : ℕ) → (EventShape (make j) × (eventKind (make j) ≡ kind)) × (eventJob (make j) ≡ j)) →
       ((j : ℕ) → writeRest measures (make j) ≡ written []) → Halves (Kind kind job) (pure (make job)) (writeRest measures)
   halves-bare make kind job made makes bare =
       let is : (e : Event) → Kind kind job e → e ≡ make job = λ e q. sym (made e (q .0 .1)) ∙ ap make (q .1) in
@@ -66,28 +66,28 @@ module _ (measures : ℕ) (few : measures < 4_294_967_296) where
   conditionOf (assign job v x) = []
   conditionOf (leave job) = []
 
-  is-arrive : (e : Event) → kindOf e ≡ 1 → arrive (jobOf e) ≡ e
+  is-arrive : (e : Event) → eventKind e ≡ 1 → arrive (eventJob e) ≡ e
   is-arrive (arrive job) d = refl
   is-arrive (admit job) d = absurd (omega (arith, d))
   is-arrive (assign job v x) d = absurd (omega (arith, d))
   is-arrive (wait job l g) d = absurd (omega (arith, d))
   is-arrive (leave job) d = absurd (omega (arith, d))
 
-  is-admit : (e : Event) → kindOf e ≡ 2 → admit (jobOf e) ≡ e
+  is-admit : (e : Event) → eventKind e ≡ 2 → admit (eventJob e) ≡ e
   is-admit (admit job) d = refl
   is-admit (arrive job) d = absurd (omega (arith, d))
   is-admit (assign job v x) d = absurd (omega (arith, d))
   is-admit (wait job l g) d = absurd (omega (arith, d))
   is-admit (leave job) d = absurd (omega (arith, d))
 
-  is-leave : (e : Event) → kindOf e ≡ 5 → leave (jobOf e) ≡ e
+  is-leave : (e : Event) → eventKind e ≡ 5 → leave (eventJob e) ≡ e
   is-leave (leave job) d = refl
   is-leave (arrive job) d = absurd (omega (arith, d))
   is-leave (admit job) d = absurd (omega (arith, d))
   is-leave (assign job v x) d = absurd (omega (arith, d))
   is-leave (wait job l g) d = absurd (omega (arith, d))
 
-  is-assign : (e : Event) → kindOf e ≡ 3 → assign (jobOf e) (variableOf e) (valueOf e) ≡ e
+  is-assign : (e : Event) → eventKind e ≡ 3 → assign (eventJob e) (variableOf e) (valueOf e) ≡ e
   unfolding variableOf valueOf
   is-assign (assign job v x) d = refl
   is-assign (arrive job) d = absurd (omega (arith, d))
@@ -95,7 +95,7 @@ module _ (measures : ℕ) (few : measures < 4_294_967_296) where
   is-assign (wait job l g) d = absurd (omega (arith, d))
   is-assign (leave job) d = absurd (omega (arith, d))
 
-  is-wait : (e : Event) → kindOf e ≡ 4 → wait (jobOf e) (localsOf e) (conditionOf e) ≡ e
+  is-wait : (e : Event) → eventKind e ≡ 4 → wait (eventJob e) (localsOf e) (conditionOf e) ≡ e
   unfolding localsOf conditionOf
   is-wait (wait job l g) d = refl
   is-wait (arrive job) d = absurd (omega (arith, d))
@@ -103,7 +103,7 @@ module _ (measures : ℕ) (few : measures < 4_294_967_296) where
   is-wait (assign job v x) d = absurd (omega (arith, d))
   is-wait (leave job) d = absurd (omega (arith, d))
 
-  wait-shape : (e : Event) → EventShape e → kindOf e ≡ 4 → Many Any locals (localsOf e) × ConditionShape (conditionOf e)
+  wait-shape : (e : Event) → EventShape e → eventKind e ≡ 4 → Many Any locals (localsOf e) × ConditionShape (conditionOf e)
   unfolding localsOf conditionOf
   wait-shape (wait job l g) s d = s
   wait-shape (arrive job) s d = absurd (omega (arith, d))
@@ -145,7 +145,7 @@ module _ (measures : ℕ) (few : measures < 4_294_967_296) where
       apart : (m n : ℕ) → eqb m n ≡ false → m ≡ n → ⊥
       apart m n e d = let z : true ≡ false = sym (eq-eqb m n d) ∙ e in let y : _≡_ {A = ℕ} 0 1 = cc in omega arith
 
-  kinds : (e : Event) → (1 ≤ kindOf e) × (kindOf e ≤ 5)
+  kinds : (e : Event) → (1 ≤ eventKind e) × (eventKind e ≤ 5)
   kinds (arrive job) = (omega arith, omega arith)
   kinds (admit job) = (omega arith, omega arith)
   kinds (assign job v x) = (omega arith, omega arith)
@@ -154,5 +154,5 @@ module _ (measures : ℕ) (few : measures < 4_294_967_296) where
 
   pub halves-event : Halves EventShape (event measures) (writeFields measures)
   halves-event =
-      halves-then kindOf (field 3 1 kindMost) (writeField 3 1 kindMost) _ _ (λ e q. kinds e) (halves-range 3 1 kindMost (omega arith))
-      (λ kind f. halves-then jobOf (below jobs) (writeBelow jobs) (ofKind measures kind) (writeRest measures) (λ e q. tt) (halves-below jobs (omega arith)) (λ job _. halves-kind kind job (f .0) (f .1)))
+      halves-then eventKind (field 3 1 kindMost) (writeField 3 1 kindMost) _ _ (λ e q. kinds e) (halves-range 3 1 kindMost (omega arith))
+      (λ kind f. halves-then eventJob (below jobs) (writeBelow jobs) (ofKind measures kind) (writeRest measures) (λ e q. tt) (halves-below jobs (omega arith)) (λ job _. halves-kind kind job (f .0) (f .1)))

@@ -26,25 +26,25 @@ operator-field s = writeField 3 1 6 (getD (s .args .operator .now) (s .args .slo
 no-measure : tie.Need-returns
 no-measure c =
     let s = c .before .before .before .before .before .before .before .before .before in
-    puts-stop (below-as (s .args .measures) (c .before .before .before .before .before .before .wide .ensures) (c .before .before .before .before .put-below .ensures)) (operator-field s then row s then last s) (c .enum-told .given .1)
+    puts-stop (below-as (s .args .measures) (c .before .before .before .before .before .before .wide .ensures .0) (c .before .before .before .before .put-below .ensures)) (operator-field s then row s then last s) (c .enum-told .given .1)
 
 field-requires : tie.Need-put-field-requires
 field-requires c κs =
     let s = c .before .before .before .before .before .before .before .before .before .before .before .before .before in
-    let one = below-as (s .args .measures) (c .before .before .before .before .before .before .before .before .before .before .wide .ensures) (c .before .before .before .before .before .before .before .before .put-below .ensures) in
+    let one = below-as (s .args .measures) (c .before .before .before .before .before .before .before .before .before .before .wide .ensures .0) (c .before .before .before .before .before .before .before .before .put-below .ensures) in
     let m = getD (s .args .measure .now) (s .args .slot) 0 in
     (omega (arith, s .pre .1 .0, one .long, near one 5 (only-short (ltb m (s .args .measures)) 4 m) (c .before .before .before .before .named .given .1)), omega arith)
 
 no-operator : tie.Need-returns-2
 no-operator c =
     let s = c .before .before .before .before .before .before .before .before .before .before .before .before .before .before .before .before .before .before in
-    puts-then (below-as (s .args .measures) (c .before .before .before .before .before .before .before .before .before .before .before .before .before .before .before .wide .ensures) (c .before .before .before .before .before .before .before .before .before .before .before .before .before .put-below .ensures)) (c .before .before .before .before .before .before .before .before .before .named .given .1) (puts-stop (field-as 3 1 6 (c .before .before .before .before .before .before .wide2 .ensures) (c .before .before .before .before .put-field .ensures)) (row s then last s) (c .enum-told2 .given .1))
+    puts-then (below-as (s .args .measures) (c .before .before .before .before .before .before .before .before .before .before .before .before .before .before .before .wide .ensures .0) (c .before .before .before .before .before .before .before .before .before .before .before .before .before .put-below .ensures)) (c .before .before .before .before .before .before .before .before .before .named .given .1) (puts-stop (field-as 3 1 6 (c .before .before .before .before .before .before .wide2 .ensures .0) (c .before .before .before .before .put-field .ensures)) (row s then last s) (c .enum-told2 .given .1))
 
 numbers-requires : tie.Need-put-numbers-requires
 numbers-requires c κs =
     let s = c .before .before .before .before .before .before .before .before .before .before .before .before .before .before .before .before .before .before .before .before .before in
-    let one = below-as (s .args .measures) (c .before .before .before .before .before .before .before .before .before .before .before .before .before .before .before .before .before .before .wide .ensures) (c .before .before .before .before .before .before .before .before .before .before .before .before .before .before .before .before .put-below .ensures) in
-    let two = field-as 3 1 6 (c .before .before .before .before .before .before .before .before .before .wide2 .ensures) (c .before .before .before .before .before .before .before .put-field .ensures) in
+    let one = below-as (s .args .measures) (c .before .before .before .before .before .before .before .before .before .before .before .before .before .before .before .before .before .before .wide .ensures .0) (c .before .before .before .before .before .before .before .before .before .before .before .before .before .before .before .before .put-below .ensures) in
+    let two = field-as 3 1 6 (c .before .before .before .before .before .before .before .before .before .wide2 .ensures .0) (c .before .before .before .before .before .before .before .put-field .ensures) in
     let m = getD (s .args .measure .now) (s .args .slot) 0 in
     let o = getD (s .args .operator .now) (s .args .slot) 0 in
     let a = near one 5 (only-short (ltb m (s .args .measures)) 4 m) (c .before .before .before .before .before .before .before .before .before .before .before .before .named .given .1) in
@@ -54,13 +54,13 @@ numbers-requires c κs =
 no-row : tie.Need-returns-3
 no-row c =
     let s = c .before .before .before .before .before .before .before .before .before .before .before .before .before .before .before .before .before .before .before .before .before .before .before .before .before .before in
-    puts-then (below-as (s .args .measures) (c .before .before .before .before .before .before .before .before .before .before .before .before .before .before .before .before .before .before .before .before .before .before .before .wide .ensures) (c .before .before .before .before .before .before .before .before .before .before .before .before .before .before .before .before .before .before .before .before .before .put-below .ensures)) (c .before .before .before .before .before .before .before .before .before .before .before .before .before .before .before .before .before .named .given .1) (puts-then (field-as 3 1 6 (c .before .before .before .before .before .before .before .before .before .before .before .before .before .before .wide2 .ensures) (c .before .before .before .before .before .before .before .before .before .before .before .before .put-field .ensures)) (c .before .before .before .before .before .before .before .before .compared .given .1) (puts-stop (c .before .before .before .before .put-numbers .ensures) (last s) (c .enum-told3 .given .1)))
+    puts-then (below-as (s .args .measures) (c .before .before .before .before .before .before .before .before .before .before .before .before .before .before .before .before .before .before .before .before .before .before .before .wide .ensures .0) (c .before .before .before .before .before .before .before .before .before .before .before .before .before .before .before .before .before .before .before .before .before .put-below .ensures)) (c .before .before .before .before .before .before .before .before .before .before .before .before .before .before .before .before .before .named .given .1) (puts-then (field-as 3 1 6 (c .before .before .before .before .before .before .before .before .before .before .before .before .before .before .wide2 .ensures .0) (c .before .before .before .before .before .before .before .before .before .before .before .before .put-field .ensures)) (c .before .before .before .before .before .before .before .before .compared .given .1) (puts-stop (c .before .before .before .before .put-numbers .ensures) (last s) (c .enum-told3 .given .1)))
 
 signed-requires : tie.Need-put-signed-requires
 signed-requires c κs =
     let s = c .before .before .before .before .before .before .before .before .before .before .before .before .before .before .before .before .before .before .before .before .before .before .before .before .before .before .before .before .before in
-    let one = below-as (s .args .measures) (c .before .before .before .before .before .before .before .before .before .before .before .before .before .before .before .before .before .before .before .before .before .before .before .before .before .before .wide .ensures) (c .before .before .before .before .before .before .before .before .before .before .before .before .before .before .before .before .before .before .before .before .before .before .before .before .put-below .ensures) in
-    let two = field-as 3 1 6 (c .before .before .before .before .before .before .before .before .before .before .before .before .before .before .before .before .before .wide2 .ensures) (c .before .before .before .before .before .before .before .before .before .before .before .before .before .before .before .put-field .ensures) in
+    let one = below-as (s .args .measures) (c .before .before .before .before .before .before .before .before .before .before .before .before .before .before .before .before .before .before .before .before .before .before .before .before .before .before .wide .ensures .0) (c .before .before .before .before .before .before .before .before .before .before .before .before .before .before .before .before .before .before .before .before .before .before .before .before .put-below .ensures) in
+    let two = field-as 3 1 6 (c .before .before .before .before .before .before .before .before .before .before .before .before .before .before .before .before .before .wide2 .ensures .0) (c .before .before .before .before .before .before .before .before .before .before .before .before .before .before .before .put-field .ensures) in
     let three = c .before .before .before .before .before .before .before .put-numbers .ensures in
     let m = getD (s .args .measure .now) (s .args .slot) 0 in
     let o = getD (s .args .operator .now) (s .args .slot) 0 in
@@ -72,7 +72,7 @@ signed-requires c κs =
 put : tie.Need-returns-4
 put c =
     let s = c .before .before .before .before .before .before .before .before .before .before .before .before .before .before .before .before .before .before .before .before .before .before .before .before .before .before .before .before .before .before .before .before in
-    puts-then (below-as (s .args .measures) (c .before .before .before .before .before .before .before .before .before .before .before .before .before .before .before .before .before .before .before .before .before .before .before .before .before .before .before .before .before .wide .ensures) (c .before .before .before .before .before .before .before .before .before .before .before .before .before .before .before .before .before .before .before .before .before .before .before .before .before .before .before .put-below .ensures)) (c .before .before .before .before .before .before .before .before .before .before .before .before .before .before .before .before .before .before .before .before .before .before .before .named .given .1) (puts-then (field-as 3 1 6 (c .before .before .before .before .before .before .before .before .before .before .before .before .before .before .before .before .before .before .before .before .wide2 .ensures) (c .before .before .before .before .before .before .before .before .before .before .before .before .before .before .before .before .before .before .put-field .ensures)) (c .before .before .before .before .before .before .before .before .before .before .before .before .before .before .compared .given .1)
+    puts-then (below-as (s .args .measures) (c .before .before .before .before .before .before .before .before .before .before .before .before .before .before .before .before .before .before .before .before .before .before .before .before .before .before .before .before .before .wide .ensures .0) (c .before .before .before .before .before .before .before .before .before .before .before .before .before .before .before .before .before .before .before .before .before .before .before .before .before .before .before .put-below .ensures)) (c .before .before .before .before .before .before .before .before .before .before .before .before .before .before .before .before .before .before .before .before .before .before .before .named .given .1) (puts-then (field-as 3 1 6 (c .before .before .before .before .before .before .before .before .before .before .before .before .before .before .before .before .before .before .before .before .wide2 .ensures .0) (c .before .before .before .before .before .before .before .before .before .before .before .before .before .before .before .before .before .before .put-field .ensures)) (c .before .before .before .before .before .before .before .before .before .before .before .before .before .before .compared .given .1)
     (puts-then (c .before .before .before .before .before .before .before .before .before .before .put-numbers .ensures) (c .before .before .before .before .before .before .row .given .1) (puts-signed 1_000_000 (getD (s .args .constant .now) (s .args .slot) (pos 0)) (c .before .before .before .put-signed-arg2 .given) (c .before .before .put-signed .ensures))))
 
 pub put-atom-spec : {M : Type 1} → statement M
