@@ -49,6 +49,7 @@ Each P [] = Unit {0}
 Each P (a ∷ l) = P a × Each P l
 
 pub each_in : {A : Type 0} (P : A → Type 0) (a : A) (l : List A) → Each P l → In a l → P a
+each_in P a [] h i = elim i [ ]
 each_in P a (b ∷ l) h (inl e) = subst P (sym e) h.0
 each_in P a (b ∷ l) h (inr i) = each_in P a l h.1 i
 

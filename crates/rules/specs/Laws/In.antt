@@ -94,6 +94,7 @@ those-both p q [] = refl
 those-both p q (a ∷ l) = by_bool (p a) (λ t. by_bool (q a) (λ u. rw (t, u) (ap (λ m. a ∷ m) (those-both p q l))) (λ u. rw (t, u) (those-both p q l))) (λ t. rw t (those-both p q l))
 
 pub in_left : {A : Type 0} (a : A) (l m : List A) → In a l → In a (l ++ m)
+in_left a [] m h = elim h [ ]
 in_left a (x ∷ l) m (inl e) = inl e
 in_left a (x ∷ l) m (inr h) = inr (in_left a l m h)
 
@@ -108,6 +109,7 @@ in-append a (x ∷ l) m (inr h) = elim (in-append a l m h) [ inl i ↦ inl (inr 
 
 module _ {A B : Type 0} (f : A → List B) where
   pub gather-in : (a : A) (b : B) (l : List A) → In a l → In b (f a) → In b (gather f l)
+  gather-in a b [] i h = elim i [ ]
   gather-in a b (x ∷ l) (inl e) h = in_left b (f x) (gather f l) (rw e at h)
   gather-in a b (x ∷ l) (inr i) h = in_right b (f x) (gather f l) (gather-in a b l i h)
 

@@ -63,6 +63,7 @@ re-once (swap {a = a} {b = b} {l = l}) o = (no-b, (λ h. o.0 (inr h), o.1.1))
 re-once (chain r s) o = re-once s (re-once r o)
 
 to_front : {A : Type 0} (a : A) (m : List A) → In a m → (n : List A) × Rearranged m (a ∷ n)
+to_front a [] h = elim h [ ]
 to_front a (b ∷ m) (inl e) = (m, subst (λ c. Rearranged (b ∷ m) (c ∷ m)) (sym e) (re-self (b ∷ m)))
 to_front a (b ∷ m) (inr h) = let r = to_front a m h in (b ∷ r.0, chain (keep r.1) swap)
 
