@@ -5,7 +5,7 @@ use Prim.Native.Nat.{ℕ, ◌+◌, ◌-◌, ◌<◌, ◌≤◌}
 use Rattle.std.proofs.Math.ListN.{get_or}
 use Rattle.rules.specs.Condition.{Condition, identical}
 use Rattle.rules.specs.Laws.In.{both, true-not-false}
-use Rattle.rules.specs.Laws.Identical.{identical-true, identical-same}
+use Rattle.rules.proofs.Laws.Identical.{identical-true, identical-same}
 use Rattle.entries.specs.Entries.{Waits, is_lead, Entries, Distinct, waits-below, lead_is}
 use Rattle.entries.specs.Firsts.{Nowhere, First}
 

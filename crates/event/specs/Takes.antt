@@ -13,7 +13,7 @@ use Rattle.rules.specs.Tally as tally
 use Rattle.rules.specs.Laws.Readers.{read-refused}
 use Rattle.rules.specs.Laws.WellFormed.{EventFits, sound-event}
 use Rattle.rules.specs.Demands.Invariant.{Invariant}
-use Rattle.rules.specs.Demands.Reached.{take-keeps}
+use Rattle.rules.proofs.Demands.Reached.{take-keeps}
 use Rattle.condition.specs.From.{from-many}
 use Rattle.room.specs.Arrays.{Arrays, measure_row, room_of}
 use Rattle.room.specs.Stores.{store_of, store_after}

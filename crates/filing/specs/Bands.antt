@@ -7,7 +7,7 @@ use Rattle.rules.specs.Base.{eq_z}
 use Rattle.rules.specs.Condition.{Atom}
 use Rattle.rules.specs.Tag.{holds}
 use Rattle.rules.specs.Laws.Bounds.{Within}
-use Rattle.rules.specs.Laws.Identical.{eq_z-true, eq_z-same}
+use Rattle.rules.proofs.Laws.Identical.{eq_z-true, eq_z-same}
 use Rattle.ranks.specs.Words.{key_room, biased, high_word, TagFits}
 use Rattle.ranks.specs.Biased.{biased-below}
 use Rattle.ranks.specs.Classes.{Class, equality, threshold, untagged, high, ClassFits}

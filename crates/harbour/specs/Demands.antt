@@ -13,11 +13,14 @@ use Rattle.rules.specs.Tally.{take, taken, note}
 use Rattle.rules.specs.Tally as steps
 use Rattle.rules.specs.Laws.In.{none-some}
 use Rattle.rules.specs.Laws.Waiting.{waiters_of}
-use Rattle.rules.specs.Demands.Answers.{Answers, every-event-is-answered}
+use Rattle.rules.specs.Demands.Answers.{Answers}
+use Rattle.rules.proofs.Demands.Answers.{every-event-is-answered}
 use Rattle.rules.specs.Demands.Calls.{NoneTrue}
-use Rattle.rules.specs.Demands.Searches.{CalledTruly, step-calls-truly, Searches, search-reports, search-calls-nobody-exactly}
+use Rattle.rules.specs.Demands.Searches.{CalledTruly, Searches}
+use Rattle.rules.proofs.Demands.Searches.{step-calls-truly, search-reports, search-calls-nobody-exactly}
 use Rattle.rules.specs.Demands.Relay.{Relay}
-use Rattle.rules.specs.Demands.Reached.{room_after, Reached, reached-relay}
+use Rattle.rules.specs.Demands.Reached.{room_after, Reached}
+use Rattle.rules.proofs.Demands.Reached.{reached-relay}
 use Rattle.condition.specs.Closing.{closed_slots}
 use Rattle.index.specs.Index.{Index}
 use Rattle.fields.specs.Answers.{place_of}

@@ -7,7 +7,8 @@ use Rattle.rules.specs.Step.{accepted, refusal, nothing}
 use Rattle.rules.specs.Step as rules
 use Rattle.rules.specs.Record.{event}
 use Rattle.rules.specs.Tally.{take}
-use Rattle.rules.specs.Demands.Answers.{Answers, every-event-is-answered}
+use Rattle.rules.specs.Demands.Answers.{Answers}
+use Rattle.rules.proofs.Demands.Answers.{every-event-is-answered}
 use Rattle.fields.specs.Answers.{place_of}
 use Rattle.room.specs.Arrays.{Arrays, room_of}
 use Rattle.room.specs.Stores.{store_of, store_after}

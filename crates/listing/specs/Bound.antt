@@ -13,9 +13,11 @@ use Rattle.rules.specs.Listing.{text, decimal, line, lines, reported, run, listi
 use Rattle.rules.specs.Laws.In.{by_bool}
 use Rattle.rules.specs.Laws.Readers.{Took}
 use Rattle.rules.specs.Laws.WellFormed.{sound-opening}
-use Rattle.rules.specs.Demands.Answers.{Answers, every-event-is-answered}
-use Rattle.rules.specs.Demands.Invariant.{Invariant, opening-has}
-use Rattle.rules.specs.Demands.Reached.{take-keeps}
+use Rattle.rules.specs.Demands.Answers.{Answers}
+use Rattle.rules.proofs.Demands.Answers.{every-event-is-answered}
+use Rattle.rules.specs.Demands.Invariant.{Invariant}
+use Rattle.rules.proofs.Demands.Invariant.{opening-has}
+use Rattle.rules.proofs.Demands.Reached.{take-keeps}
 use Rattle.listing.specs.Decimal.{decimal-one, decimal-more}
 use Rattle.listing.specs.Few.{Small, JobFew, take-small}
 use Rattle.listing.specs.Streams.{by_length, Listed}

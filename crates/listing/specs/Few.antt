@@ -12,10 +12,12 @@ use Rattle.rules.specs.Step.{Event, Report, accepted, refusal, nothing, Step, jo
 use Rattle.rules.specs.Tally.{take, taken}
 use Rattle.rules.specs.Laws.In.{In, by_bool, in-those}
 use Rattle.rules.specs.Laws.Moves as moves
+use Rattle.rules.proofs.Laws.Moves.{step-moves}
 use Rattle.rules.specs.Laws.Stores.{within}
 use Rattle.rules.specs.Laws.Waiting.{waiters_of, waits_there, outside-waiting}
 use Rattle.rules.specs.Laws.WellFormed.{sound-event}
-use Rattle.rules.specs.Demands.Calls.{found_in, called-only-if-true}
+use Rattle.rules.specs.Demands.Calls.{found_in}
+use Rattle.rules.proofs.Demands.Calls.{called-only-if-true}
 use Rattle.rules.specs.Demands.Invariant.{Invariant, StandingFits}
 
 -- ---- lists
@@ -83,7 +85,7 @@ module _ (r : Room) (i : Invariant r) where
   move-small (moves.leaves e) = (found-few (found_in r) refl, few-evaluated r i)
 
   taken-small : (bytes : List ℕ) (x : Read Event) → event (length r.measures) bytes ≡ x → Small (taken r bytes x).result.report
-  taken-small bytes (read e rest) d = move-small (moves.step-moves r e)
+  taken-small bytes (read e rest) d = move-small (step-moves r e)
   taken-small bytes (refused n) d = omega (arith, ((sound-event (length r.measures)).refuses bytes n d).1)
 
   pub take-small : (bytes : List ℕ) → Small (take r bytes).result.report

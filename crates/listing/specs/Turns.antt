@@ -7,8 +7,9 @@ use Rattle.rules.specs.Step.{Report}
 use Rattle.rules.specs.Tally as tally
 use Rattle.rules.specs.Listing.{lines, reported, line, text, decimal, ◌␣◌, job, outcome_word}
 use Rattle.rules.specs.Laws.Readers.{Took}
-use Rattle.rules.specs.Demands.Answers.{Answers, every-event-is-answered}
-use Rattle.rules.specs.Demands.Listings.{lines-enough, shorter}
+use Rattle.rules.specs.Demands.Answers.{Answers}
+use Rattle.rules.proofs.Demands.Answers.{every-event-is-answered}
+use Rattle.rules.proofs.Demands.Listings.{lines-enough, shorter}
 use Rattle.room.specs.Arrays.{Arrays, room_of}
 use Rattle.room.specs.Reports.{outcome_of, job_in}
 use Rattle.event.specs.Takes.{Takes}

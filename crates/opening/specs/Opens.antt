@@ -8,7 +8,8 @@ use Rattle.rules.specs.Record.{opening}
 use Rattle.rules.specs.Room.{Room, outside, opened, no_room}
 use Rattle.rules.specs.Laws.Bounds.{Within}
 use Rattle.rules.specs.Laws.WellFormed.{Opening, sound-opening}
-use Rattle.rules.specs.Demands.Invariant.{Invariant, opening-has}
+use Rattle.rules.specs.Demands.Invariant.{Invariant}
+use Rattle.rules.proofs.Demands.Invariant.{opening-has}
 use Rattle.fields.specs.Answers.{place_of}
 use Rattle.fields.specs.declared.number.Number.{Number}
 use Rattle.fields.specs.declared.number.Number.TheVariants.{Got, Refused}

@@ -7,7 +7,7 @@ use Rattle.rules.specs.Tag.{holds, is_equality}
 use Rattle.rules.specs.Rank.{is_upward, place}
 use Rattle.rules.specs.Laws.In.{by_bool}
 use Rattle.rules.specs.Laws.Bounds.{Within}
-use Rattle.rules.specs.Laws.Identical.{eq_z-true}
+use Rattle.rules.proofs.Laws.Identical.{eq_z-true}
 use Rattle.ranks.specs.Words.{key_room, biased, packed, high_word, TagFits}
 use Rattle.ranks.specs.Biased.{biased-below, within-neg}
 

@@ -6,7 +6,7 @@ use Rattle.rules.specs.Laws.Cases.{by_eq}
 use Rattle.rules.specs.Base.{if◌then◌else◌}
 use Rattle.rules.specs.Search.{Waiter, Pair, found, evaluated}
 use Rattle.rules.specs.Laws.Waiting.{pair_of}
-use Rattle.rules.specs.Demands.Calls.{found-true}
+use Rattle.rules.proofs.Demands.Calls.{found-true}
 use Rattle.condition.specs.Closing.{ClosedSlots}
 use Rattle.index.specs.Changes.{WordsOf, PartedIndex}
 use Rattle.search.specs.Pairs.{waiter_at, waiters_in, in-waiters}

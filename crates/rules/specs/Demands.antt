@@ -2,10 +2,8 @@
 pub mod Calls
 pub mod Relay
 pub mod Tickets
-pub mod Ranks
 pub mod Invariant
 pub mod Answers
 pub mod Searches
 pub mod Reached
-pub mod Listings
 pub mod Writes

@@ -1,8 +1,6 @@
 -- Laws about the definitions, which the demands and the other crates' proofs cite.
 pub mod In
 pub mod Order
-pub mod Identical
-pub mod Tagged
 pub mod Least
 pub mod Waiting
 pub mod Stores
@@ -14,7 +12,6 @@ pub mod Cases
 pub mod Readers
 pub mod Groups
 pub mod Halves
-pub mod FieldHalves
 pub mod Written
 pub mod WrittenEvents
 pub mod WellFormed

@@ -3,7 +3,6 @@ use Rattle.std.specs.Prelude.{true, false, List, [], ◌∷◌, ◌++◌, ℕ, z
 use Rattle.std.proofs.Math.Option.{Option, none, some}
 use Prim.Native.String.{String, [] as none_left, ◌∷◌ as letter}
 use Prim.Native.Char.{code}
-use Rattle.rules.specs.Base.{if◌then◌else◌}
 use Rattle.rules.specs.Limits.{stream_most}
 use Rattle.rules.specs.Number.{Read, read, refused}
 use Rattle.rules.specs.Room.{Room}

@@ -1,3 +1,5 @@
+#![tactic(auto)]
+
 ghost use Rattle.std.specs.Prelude.{◌≡◌};
 
 // Document 01 as definitions: they stand in specs/, which the contracts of the other crates cite. There is no code here

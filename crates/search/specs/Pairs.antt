@@ -13,8 +13,9 @@ use Rattle.rules.specs.Search.{Waiter, Pair, pairs_of, pairs, follows, oldest}
 use Rattle.rules.specs.Laws.In.{In, true-not-false, in-those, those-in, gather-in, in-gather}
 use Rattle.rules.specs.Laws.Waiting.{of, pairs_of-in}
 use Rattle.rules.specs.Laws.Rearranged.{Once, Rearranged, same-members}
-use Rattle.rules.specs.Demands.Ranks.{rank_same}
-use Rattle.rules.specs.Laws.InRankOrder.{InRankOrder, ordered-once}
+use Rattle.rules.proofs.Demands.Ranks.{rank_same}
+use Rattle.rules.specs.Laws.InRankOrder.{InRankOrder}
+use Rattle.rules.proofs.Laws.InRankOrder.{ordered-once}
 use Rattle.condition.specs.From.{from}
 use Rattle.condition.specs.Closing.{ClosedSlots}
 use Rattle.condition.specs.Closes.{alternative_in, condition_in}

@@ -9,8 +9,9 @@ use Rattle.rules.specs.Rank.{before}
 use Rattle.rules.specs.Search.{Waiter, Pair, follows}
 use Rattle.rules.specs.Laws.Cases.{by_eq}
 use Rattle.rules.specs.Laws.In.{In, by_bool, true-not-false, both, any-in, any_some}
-use Rattle.rules.specs.Laws.Identical.{identical-true, identical-same}
-use Rattle.rules.specs.Laws.InRankOrder.{InRankOrder, law-found, law-count}
+use Rattle.rules.proofs.Laws.Identical.{identical-true, identical-same}
+use Rattle.rules.specs.Laws.InRankOrder.{InRankOrder}
+use Rattle.rules.proofs.Laws.InRankOrder.{law-found, law-count}
 use Rattle.condition.specs.Tags.{tag-means}
 use Rattle.condition.specs.Closes.{condition_in, alternative_in}
 use Rattle.ranks.specs.Words.{word, high_word, TagFits}

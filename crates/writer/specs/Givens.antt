@@ -5,7 +5,7 @@ use Rattle.rules.specs.Condition.{Given}
 use Rattle.rules.specs.Writer.{Written, written, ◌then◌, all-written, write_counted, write_below, write_field, write_coefficient, write_value, write_atom}
 use Rattle.rules.specs.Laws.In.{both}
 use Rattle.rules.specs.Laws.Halves.{written_same, both-written}
-use Rattle.rules.specs.Laws.FieldHalves.{passes}
+use Rattle.rules.proofs.Laws.FieldHalves.{passes}
 use Rattle.condition.specs.From.{from, from-many}
 use Rattle.writer.specs.Puts.{Puts, only-short, both-short, all_short, signed-short}
 use Rattle.wire.specs.declared.place.Place.{Place}

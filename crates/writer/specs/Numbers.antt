@@ -3,7 +3,8 @@ use Rattle.std.specs.Prelude.{◌≡◌, refl, List, ℕ, zero, suc, ◌+◌, �
 use Rattle.std.proofs.Common.{sym, ap, ◌∙◌, arith}
 use Rattle.std.proofs.lemmas.List.Edits.{sets}
 use Rattle.rules.specs.Writer.{groups_of, number_bytes}
-use Rattle.rules.specs.Laws.Groups.{room, of-small, of-large}
+use Rattle.rules.specs.Laws.Groups.{room}
+use Rattle.rules.proofs.Laws.Groups.{of-small, of-large}
 
 -- of number n, from place `at` on: `rest` goes on at place i, and needs at most k groups
 pub record Going (out₀ out : List ℕ) (at n rest i k : ℕ) : Type 0 where

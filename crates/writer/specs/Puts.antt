@@ -9,7 +9,7 @@ use Rattle.std.proofs.Math.Seq.{length-sets}
 use Rattle.std.proofs.lemmas.Bool.{lt-leb}
 use Rattle.rules.specs.Writer.{Written, written, unwritten, ◌then◌, all-written, groups_of, number_bytes, unsigned, write_only, write_field, write_below, write_signed}
 use Rattle.rules.specs.Laws.Cases.{by_lt}
-use Rattle.rules.specs.Laws.Groups.{of-small, of-large}
+use Rattle.rules.proofs.Laws.Groups.{of-small, of-large}
 use Rattle.rules.specs.Laws.Halves.{written_same, written-not, both-written}
 use Rattle.integers.specs.Machine.{back}
 use Rattle.integers.specs.Mapping.{unsigned-size}

@@ -1,6 +1,6 @@
 -- How far from 0 sums and products of signed numbers can be: |x + y| ≤ |x| + |y| and |xy| = |x||y|, so a sum of products is
 -- bounded by how many there are.
-use Rattle.std.specs.Prelude.{◌≡◌, refl, Bool, true, false, cond, ◌⊎◌, List, [], ◌∷◌, ℕ, zero, suc, ◌+◌, ◌*◌, ◌-◌, ◌≤◌, ltb, length, ℤ, pos, negsuc, neg_ℤ, nat_abs, ◌+ℤ◌, ◌-ℤ◌, ◌*ℤ◌}
+use Rattle.std.specs.Prelude.{◌≡◌, refl, Bool, true, false, cond, List, [], ◌∷◌, ℕ, zero, suc, ◌+◌, ◌*◌, ◌-◌, ◌≤◌, ltb, length, ℤ, pos, negsuc, neg_ℤ, nat_abs, ◌+ℤ◌, ◌-ℤ◌, ◌*ℤ◌}
 use Rattle.std.proofs.Common.{sym, subst, inl, inr, le_refl, le_trans, add-le-add, mul-le-mul, suc-mul, arith}
 use Rattle.rules.specs.Condition.{products}
 use Rattle.rules.specs.Laws.In.{In}

@@ -3,7 +3,6 @@ use Rattle.std.specs.Prelude.{◌≡◌, refl, ◌⊎◌, true, false, List, [],
 use Rattle.std.proofs.Common.{ap, inl, inr, arith, ltb-true, ltb-false, lt-ltb, le-ltb}
 use Rattle.std.proofs.Math.Decide.{dec_lt}
 use Rattle.std.specs.Int.Signed.{lt_z}
-use Rattle.rules.specs.Base.{if◌then◌else◌}
 use Rattle.rules.specs.Rank.{before}
 use Rattle.rules.specs.Laws.In.{by_bool, true-not-false}
 

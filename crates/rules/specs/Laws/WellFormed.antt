@@ -4,7 +4,7 @@ use Rattle.std.specs.Prelude.{◌≡◌, refl, List, [], ◌∷◌, map, ℕ, �
 use Rattle.std.proofs.Common.{arith}
 use Rattle.std.proofs.lemmas.List.{length-map}
 use Rattle.rules.specs.Limits.{jobs, variables, measures_most, value_most, coefficient_most, locals, parts_most, kind_most, operator_most, measure_most, key_most}
-use Rattle.rules.specs.Number.{Reader, field, below, times, pure, ◌>>=◌}
+use Rattle.rules.specs.Number.{Reader, field, below, times}
 use Rattle.rules.specs.Condition.{Given, Atom, Condition, close, closure}
 use Rattle.rules.specs.Room.{Room, opened, measured}
 use Rattle.rules.specs.Step.{Event, arrive, admit, assign, wait, leave}

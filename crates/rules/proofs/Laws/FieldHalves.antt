@@ -6,7 +6,8 @@ use Rattle.rules.specs.Writer.{Written, written, number_bytes, unsigned, write_o
 use Rattle.rules.specs.Laws.Cases.{by_eq}
 use Rattle.rules.specs.Laws.In.{both}
 use Rattle.rules.specs.Laws.Readers.{read-refused, read_same}
-use Rattle.rules.specs.Laws.Groups.{after_read, number-back, number-stood}
+use Rattle.rules.proofs.Laws.Groups.{number-back, number-stood}
+use Rattle.rules.specs.Laws.Groups.{after_read}
 use Rattle.rules.specs.Laws.Halves.{Halves, written_same, halves-same, halves-any, written-if}
 
 pub passes : (u : Bool) (refusal n : ℕ) (l : List ℕ) → write_only u refusal n ≡ written l → u ≡ true

@@ -7,7 +7,8 @@ use Rattle.rules.specs.Tally.{take}
 use Rattle.rules.specs.Listing.{lines, reported, line, text, decimal, ◌␣◌, job, outcome_word}
 use Rattle.rules.specs.Laws.In.{by_bool}
 use Rattle.rules.specs.Laws.Readers.{Took}
-use Rattle.rules.specs.Demands.Answers.{Answers, every-event-is-answered}
+use Rattle.rules.specs.Demands.Answers.{Answers}
+use Rattle.rules.proofs.Demands.Answers.{every-event-is-answered}
 
 pub shorter : {bytes rest : List ℕ} → Took 2 bytes rest → length rest < length bytes
 shorter {bytes} t = omega (arith, t.at_least, t.at_most, ap length t.left, length-drop t.count bytes)
