@@ -1,4 +1,6 @@
 // Signed numbers: the mapping from a number's groups, and the laws that other crates' proofs cite (specs/).
+#![tactic(auto)]
+
 ghost use Rattle.std.specs.Prelude.{◌≡◌};
 ghost use Rattle.rules.specs.Number.{signed};
 ghost use Rattle.rules.specs.Writer.{unsigned};

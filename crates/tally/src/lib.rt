@@ -1,5 +1,7 @@
 // The tally: four counts that a host lends to each event. A count that would pass the ceiling becomes the ceiling; one that is above it already,
 // from the host, is left as it is.
+#![tactic(auto)]
+
 ghost use Rattle.std.specs.Prelude.{◌≡◌};
 ghost use Rattle.rules.specs.Tally.{plus as plus_of};
 ghost use Rattle.tally.specs.Added.{added_tally};
