@@ -1,5 +1,5 @@
 -- Where reading goes on: what a reader of the rules leaves is what stands from the next place on.
-use Rattle.std.specs.Prelude.{◌≡◌, refl, List, [], ℕ, ◌+◌, ◌-◌, ◌≤◌, ℤ, length, drop}
+use Rattle.std.specs.Prelude.{◌≡◌, refl, List, [], ℕ, ◌+◌, ◌≤◌, ℤ, length, drop}
 use Rattle.std.proofs.Common.{sym, ap, ◌∙◌, arith, length-drop, drop_of_length-le, drop-drop}
 use Rattle.std.proofs.Math.Decide.{dec_le}
 use Rattle.rules.specs.Number.{Read, read, refused, Reader}
