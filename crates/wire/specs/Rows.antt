@@ -2,7 +2,7 @@
 use Rattle.std.specs.Prelude.{◌≡◌, refl, List, [], ◌∷◌, ◌++◌, ℕ, zero, suc, ◌+◌, ◌*◌}
 use Rattle.std.proofs.Common.{sym, ap, ◌∙◌, zero-add, suc-add, zero-mul, suc-mul, add_comm}
 use Rattle.rules.specs.Base.{gather}
-use Rattle.rules.specs.Number.{Read, read, refused, Reader, pure, after, ◌>>=◌, times}
+use Rattle.rules.specs.Number.{Read, read, refused, Reader, pure, after, times}
 
 abbrev pub flat : {A : Type 0} → List (List A) → List A
 flat = gather (λ l. l)

@@ -9,7 +9,6 @@ use Rattle.wire.specs.Into.{put_all}
 use Rattle.wire.specs.Numbers.{put_numbers}
 use Rattle.fields.specs.declared.number.Number.{Number}
 use Rattle.fields.specs.declared.number.Number.TheVariants as number
-use Rattle.wire.specs.declared.place.Place.TheVariants.{Refused}
 
 -- ---- one atom in its slot
 pub record AtomSlots : Type 0 where

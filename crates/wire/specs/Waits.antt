@@ -2,10 +2,10 @@
 use Rattle.std.specs.Prelude.{◌≡◌, refl, List, [], ◌∷◌, ◌++◌, ℕ, ◌+◌, ◌*◌, ◌-◌, ◌≤◌, ◌<◌, ℤ, pos, length, drop, set, replicate}
 use Rattle.std.proofs.Common.{sym, ap, ◌∙◌, append-nil, arith}
 use Rattle.std.proofs.lemmas.List.Edits.{sets}
-use Rattle.rules.specs.Limits.{operator_most, parts_most, locals}
+use Rattle.rules.specs.Limits.{operator_most, parts_most}
 use Rattle.rules.specs.Number.{Read, read, refused, Reader, pure, after, times, field, below, signed_field}
 use Rattle.rules.specs.Condition.{Given}
-use Rattle.rules.specs.Record.{atom, value, counted, condition}
+use Rattle.rules.specs.Record.{atom, value, counted}
 use Rattle.rules.specs.Laws.Bounds.{Each}
 use Rattle.rules.specs.Laws.WellFormed.{GivenFits, Parts, sound-atom, sound-counted}
 use Rattle.rules.specs.Laws.Readers.{SoundReader, sound-field, sound-below, sound-times, read_same, read-refused, refused-same}
