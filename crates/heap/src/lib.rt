@@ -1,5 +1,7 @@
 // A binary heap of nodes over a lent slice (figure 4 of the paper): its first n places hold nodes, and none ranks before the one above it.
 // Place i has its children at 2 * i + 1 and 2 * i + 2. Nodes go in and out; a hole moves along the way, so each step is one store.
+#![tactic(auto)]
+
 ghost use Rattle.std.specs.Prelude.{◌≡◌, ◌+◌, ◌*◌, ◌<◌, ◌≤◌, length};
 ghost use Rattle.nodes.specs.Ranks.{rank};
 ghost use Rattle.nodes.specs.Holes.{rank_at};
@@ -10,6 +12,7 @@ ghost use Rattle.heap.specs.Sinks.{LeastChild, Next, Sunk};
 use nodes::ranks_before;
 
 // Whether node x, at place i, ranks before the one above it.
+#[tactic(auto, using(crate::proofs::Laws::above_laws))]
 fn goes_up(heap: &[u8], high: &[u64; 128], low: &[u64; 128], i: usize, x: u8) -> bool
     requires { i < length heap.now }
     ensures { result ≡ rises above (rank high.now low.now) heap.now i x }
@@ -21,6 +24,7 @@ fn goes_up(heap: &[u8], high: &[u64; 128], low: &[u64; 128], i: usize, x: u8) ->
 }
 
 // Node x into the hole at place k of n, from where it rises.
+#[tactic(auto, using(crate::proofs::Laws::rise_laws))]
 fn rise(heap: &mut [u8], high: &[u64; 128], low: &[u64; 128], n: usize, k: usize, x: u8)
     requires fact_1 { k < n }
     requires fact_2 { n ≤ length heap.old }
@@ -61,6 +65,7 @@ fn least_child(heap: &[u8], high: &[u64; 128], low: &[u64; 128], n: usize, i: us
 }
 
 // Where the hole at place i goes when x sinks into it: to a child that ranks before x, or nowhere (i itself).
+#[tactic(auto, using(crate::proofs::Laws::next_laws))]
 fn goes_down(heap: &[u8], high: &[u64; 128], low: &[u64; 128], n: usize, i: usize, x: u8) -> usize
     requires fact_1 { i < n }
     requires fact_2 { n ≤ length heap.now }
@@ -77,6 +82,7 @@ fn goes_down(heap: &[u8], high: &[u64; 128], low: &[u64; 128], n: usize, i: usiz
 }
 
 // Node x into the hole at place k of n, from where it sinks.
+#[tactic(auto, using(nodes::specs::Holes::moved_none))]
 fn sink(heap: &mut [u8], high: &[u64; 128], low: &[u64; 128], n: usize, k: usize, x: u8)
     requires fact_1 { k < n }
     requires fact_2 { n ≤ length heap.old }

@@ -1,5 +1,5 @@
 -- What stands in the first n places, by counting: a store takes one out and puts one in.
-use Rattle.std.specs.Prelude.{◌≡◌, refl, Bool, true, false, List, ℕ, zero, suc, ◌+◌, ◌-◌, ◌<◌, get_or, set, length, eqb}
+use Rattle.std.specs.Prelude.{◌≡◌, refl, Bool, true, false, List, ℕ, zero, suc, ◌+◌, ◌<◌, get_or, set, length, eqb}
 use Rattle.std.proofs.Common.{ap, arith, add-one, get_or-set_same, get_or-set_other, eq-eqb, ne_eqb}
 use Rattle.rules.specs.Laws.Cases.{by_eq}
 
@@ -40,7 +40,7 @@ unfolding count
 count_set l zero j v z p q = absurd (omega arith)
 count_set l (suc n) j v z p q =
     by_eq j n
-    (λ e. rw (e) (omega (arith, count_same (set l n v) l n z (λ k r. get_or-set_other l n k v 0 (omega arith)), ap (λ (y : ℕ). is y z) (get_or-set_same l n v 0 (omega arith)))))
+    (λ e. rw (e) (omega (arith, ap (λ (i : ℕ). count (set l i v) n z) e, count_same (set l n v) l n z (λ k r. get_or-set_other l n k v 0 (omega arith)), ap (λ (y : ℕ). is y z) (get_or-set_same l n v 0 (omega arith)))))
     (λ e. omega (arith, count_set l n j v z (omega arith) q, ap (λ (y : ℕ). is y z) (get_or-set_other l j n v 0 (omega arith))))
 
 -- what is counted stands somewhere

@@ -1,6 +1,6 @@
 -- A heap's order, but for a hole: what may stand in the hole is asked by those under it and by the one over it, and a hole that moves up or
 -- down leaves an order but for the new hole. `parent` is any function that leads to a lower place.
-use Rattle.std.specs.Prelude.{◌≡◌, ℕ, ◌+◌, ◌-◌, ◌<◌, ◌≤◌}
+use Rattle.std.specs.Prelude.{◌≡◌, ℕ, ◌+◌, ◌<◌, ◌≤◌}
 use Rattle.std.proofs.Math.Path.{ap}
 use Rattle.std.proofs.Common.{arith}
 use Rattle.rules.specs.Laws.Cases.{by_eq}
