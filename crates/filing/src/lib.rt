@@ -1,6 +1,8 @@
 // Where an alternative is filed in the index, by its tag, and the rank words of a job's alternatives. A node is job * 4 + alternative, below 128.
 // The index has 34 homes: heaps 0 to 31, measure * 2 for > and ≥ and one more for < and ≤; 32, the row of equality tags; and 33, the row of
 // alternatives without a tag.
+#![tactic(auto)]
+
 ghost use Rattle.std.specs.Prelude.{◌≡◌, ℕ, ◌+◌, ◌*◌, ◌<◌, get_or};
 ghost use Rattle.std.proofs.lemmas.List.Edits.{sets};
 ghost use Rattle.rules.specs.Limits.{key_most};
@@ -96,6 +98,7 @@ pub fn write_words(
 }
 
 // The high word of the equality tags of a measure that hold at this value of it.
+#[tactic(auto, unfolding(ranks::specs::Words::high_word))]
 pub fn equality_word(measure: usize, value: i64) -> u64
     requires { (measure < 16) × Within key_room value }
     ensures { result ≡ equality_word measure value }

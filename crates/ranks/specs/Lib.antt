@@ -1,4 +1,4 @@
--- The rank words, and the law that their order is document 01's.
+-- The rank words; the law that their order is document 01's is in proofs/Law.antt.
 pub mod Words
 pub mod Biased
 pub mod Digits

@@ -1,5 +1,7 @@
 // Rank words: two unsigned words of an alternative. Of two alternatives whose tags hold, the one whose words are lower, the high word before the
-// low one, is the earlier in document 01's order ("Which job a search calls"): `word-order` of specs/Law.antt.
+// low one, is the earlier in document 01's order ("Which job a search calls"): `word-order` of proofs/Law.antt.
+#![tactic(auto)]
+
 ghost use Rattle.std.specs.Prelude.{◌≡◌, ◌^◌, ◌<◌, ◌≤◌, neg_ℤ};
 ghost use Rattle.std.proofs.Math.Option.{none, some};
 ghost use Rattle.rules.specs.Laws.Bounds.{Within};
@@ -41,6 +43,7 @@ fn pack(class: u64, measure: u64, direction: u64, key: u64, strict: u64) -> u64
 }
 
 // The high word of an alternative with this tag.
+#[tactic(auto, unfolding(crate::specs::Words::high_word))]
 pub fn high_word(measure: u8, operator: u8, key: i64) -> u64
     requires { (measure < 16) × Within key_room key }
     ensures { result ≡ high_word (some (record { measure = measure; operator = operator; key = key })) }
@@ -57,6 +60,7 @@ pub fn high_word(measure: u8, operator: u8, key: i64) -> u64
 }
 
 // The high word of an alternative without a tag.
+#[tactic(auto, unfolding(crate::specs::Words::high_word))]
 pub fn no_tag_word() -> u64
     ensures { result ≡ high_word none }
 {

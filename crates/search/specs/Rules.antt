@@ -15,7 +15,7 @@ use Rattle.rules.proofs.Laws.InRankOrder.{law-found, law-count}
 use Rattle.condition.specs.Tags.{tag-means}
 use Rattle.condition.specs.Closes.{condition_in, alternative_in}
 use Rattle.ranks.specs.Words.{word, high_word, TagFits}
-use Rattle.ranks.specs.Law.{word-order}
+use Rattle.ranks.proofs.Law.{word-order}
 use Rattle.nodes.specs.Ranks.{two}
 use Rattle.rows.specs.Halves.{word_of}
 use Rattle.entries.specs.Entries.{Waits, is_lead, waits-below}
