@@ -1,4 +1,6 @@
 // Whether a Wait's condition is true, before anything of it is stored: each atom is closed where it stands in the Wait's slots.
+#![tactic(auto)]
+
 ghost use Rattle.std.specs.Prelude.{◌≡◌, ◌<◌};
 ghost use Rattle.rules.specs.Condition.{atom_true, condition_true, closure};
 ghost use Rattle.condition.specs.Measures.{now_at};

@@ -1,4 +1,6 @@
 // The index: a job joins it when it waits, and parts from it when it is called. Only the leads of entries have nodes in the homes.
+#![tactic(auto)]
+
 ghost use Rattle.std.specs.Prelude.{◌≡◌, ℕ, ◌<◌, get_or};
 ghost use Rattle.rules.specs.Limits.{key_most};
 ghost use Rattle.condition.specs.Measures.{AllIn};
