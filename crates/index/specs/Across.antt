@@ -1,6 +1,6 @@
 -- Sums over the first numbers, and by them how many nodes a home may have: as many as there are numbers that it may hold, if it holds each once.
 use Rattle.std.specs.Prelude.{◌≡◌, refl, List, ℕ, zero, suc, ◌+◌, ◌*◌, ◌/◌, ◌<◌, ◌≤◌, get_or}
-use Rattle.std.proofs.Common.{arith}
+use Rattle.std.proofs.Common.{ap, arith}
 use Rattle.rules.specs.Laws.Cases.{by_eq}
 use Rattle.nodes.specs.Counts.{is, is-self, is-not, count, count_at}
 
@@ -37,7 +37,7 @@ across-not y (suc k) h = omega (arith, across-not y k (omega arith), is-not y k 
 across-is : (y k : ℕ) → y < k → across (is y) k ≡ 1
 unfolding across
 across-is y zero h = absurd (omega arith)
-across-is y (suc k) h = by_eq y k (λ e. rw e (omega (arith, across-not k k (omega arith), is-self k))) (λ d. omega (arith, across-is y k (omega arith), is-not y k d))
+across-is y (suc k) h = by_eq y k (λ e. omega (arith, across-not y k (omega arith), ap (λ (i : ℕ). is i k) e, is-self k)) (λ d. omega (arith, across-is y k (omega arith), is-not y k d))
 
 is-most : (y z : ℕ) → is y z ≤ 1
 is-most y z = by_eq y z (λ e. rw e (omega (arith, is-self z))) (λ d. omega (arith, is-not y z d))

@@ -1,6 +1,6 @@
 -- The coefficients of an opening in their slots: eight for each measure, one measure after the other, and 0 past them. So the row of measure m is the m-th that was read.
 use Rattle.std.specs.Prelude.{◌≡◌, refl, List, [], ◌∷◌, ◌++◌, ℕ, zero, suc, ◌+◌, ◌*◌, ◌-◌, ◌≤◌, ℤ, pos, get_or, length, replicate}
-use Rattle.std.proofs.Common.{sym, ap, ◌∙◌, append_assoc, add-zero, arith, length-append, get_or-append-add}
+use Rattle.std.proofs.Common.{sym, ap, ◌∙◌, subst, append_assoc, add-zero, arith, length-append, get_or-append-add}
 use Rattle.std.proofs.lemmas.List.{length-replicate}
 use Rattle.rules.specs.Laws.Bounds.{Within, Each}
 use Rattle.rules.specs.Laws.WellFormed.{Numbers}
@@ -26,7 +26,8 @@ rows_at most front (row ∷ rows) back m e h =
     let here : measure_row (front ++ (row ++ (flat rows ++ back))) m ≡ row = rw (h.0.0, e) at (row_at front row (flat rows ++ back)) in
     let eight-more : length (front ++ row) ≡ suc m * 8 = omega (arith, length-append front row, h.0.0) in
     let rest = rows_at most (front ++ row) rows back (suc m) eight-more h.1 in
-    rw all (λ i. here i ∷ (rw (append_assoc front row (flat rows ++ back)) at rest) i)
+    subst (λ (tail : List ℤ). from (measure_row (front ++ tail)) (suc (length rows)) m ≡ row ∷ rows) (sym all)
+    (λ i. here i ∷ (rw (append_assoc front row (flat rows ++ back)) at rest) i)
 
 pub rows_back : (most : ℕ) (rows : List (List ℤ)) → Each (Numbers 8 most) rows → from (measure_row (slots 128 (flat rows))) (length rows) 0 ≡ rows
 rows_back most rows h = rows_at most [] rows (replicate (128 - length (flat rows)) (pos 0)) 0 refl h
