@@ -1,5 +1,7 @@
 // A walk over a heap in the order of ranks: the root is the first; it is evaluated, taken off if it is false, and so on, until a tag does not hold.
 // What is taken off is gone: the heap is a search's own copy.
+#![tactic(auto)]
+
 ghost use Rattle.std.specs.Prelude.{◌≡◌, ◌≤◌, length};
 ghost use Rattle.condition.specs.Measures.{Ranges, now_at};
 ghost use Rattle.nodes.specs.Ranks.{rank};
