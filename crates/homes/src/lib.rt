@@ -1,6 +1,8 @@
 // The homes of nodes, over one lent slice. Homes 0 to 31 are heaps, two for each measure: one of the alternatives tagged with > or ≥, one of those
 // tagged with < or ≤. Home 32 is the row of those tagged with =, home 33 the row of those without a tag. A home has 128 places, more than a room
 // has nodes; `lengths` says how many of them hold one, and the others hold 0.
+#![tactic(auto)]
+
 ghost use Rattle.std.specs.Prelude.{◌≡◌, ◌<◌, ◌≤◌, get_or, length};
 ghost use Rattle.nodes.specs.Ranks.{rank};
 ghost use Rattle.nodes.specs.Rises.{Pushed, Removed};
