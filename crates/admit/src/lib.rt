@@ -1,5 +1,7 @@
 // Admit (2): needs door or called, and nobody inside. From the door the job goes inside. A called job's condition is evaluated: true, it goes inside;
 // false, a search is made and it is sent back to waiting with its old ticket. Whatever the next ticket is: it has no part in this.
+#![tactic(auto)]
+
 ghost use Rattle.std.specs.Prelude.{◌≡◌, ℕ, ◌<◌, get_or};
 ghost use Rattle.rules.specs.Step as rules;
 ghost use Rattle.condition.specs.Closing.{closed_slots};

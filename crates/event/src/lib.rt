@@ -1,4 +1,6 @@
 // An event from bytes, at a place: its head is read, of a Wait its numbers too, and then it is done.
+#![tactic(auto)]
+
 ghost use Rattle.std.specs.Prelude.{◌≡◌, ◌<◌, drop};
 ghost use Rattle.condition.specs.Closing.{closed_slots};
 ghost use Rattle.wire.specs.Heads.{head_at};

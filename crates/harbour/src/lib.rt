@@ -1,5 +1,7 @@
 // The host's library: one Room and one Tally, lent to each call. A host opens a room from bytes and then gives it events, one string of bytes each;
 // every answer is plain numbers. The work is done by covered functions over the room's arrays (`arrays`); those here are thin.
+#![tactic(auto)]
+
 ghost use Rattle.std.specs.Prelude.{◌≡◌};
 ghost use Rattle.room.specs.Kept.{Kept};
 ghost use Rattle.harbour.specs.Rooms.{arrays_of};

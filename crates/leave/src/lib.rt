@@ -1,4 +1,6 @@
 // Leave (5): inside to outside, then a search. Whatever the next ticket is: it has no part in this.
+#![tactic(auto)]
+
 ghost use Rattle.std.specs.Prelude.{ℕ, ◌<◌};
 ghost use Rattle.rules.specs.Step as rules;
 ghost use Rattle.condition.specs.Closing.{closed_slots};

@@ -1,4 +1,6 @@
 // A whole stream to its listing, in a lent buffer (document 01, "The program and one whole run").
+#![tactic(auto)]
+
 ghost use Rattle.std.specs.Prelude.{◌≡◌, ◌++◌, min, length, drop};
 ghost use Rattle.rules.specs.Listing.{listing as listing_of};
 ghost use Rattle.listing.specs.Bound.{Front};

@@ -1,4 +1,6 @@
 // The opening: the coefficients and values that were read, and every other number 0; a refused one leaves 0 everywhere.
+#![tactic(auto)]
+
 ghost use Rattle.std.specs.Prelude.{◌≡◌, pos, length, replicate};
 ghost use Rattle.condition.specs.Closing.{closed_slots};
 ghost use Rattle.room.specs.Arrays.{arrays};

@@ -3,6 +3,8 @@
 // The search only reads the room. It tells who is called, and how many alternatives it evaluated.
 //
 // A home has 128 places (crate homes): heaps 0 to 31, the row of equality tags from place 4096 on, the row without tags from 4224 on.
+#![tactic(auto)]
+
 ghost use Rattle.std.specs.Prelude.{◌≡◌, ◌++◌, ◌+◌, ◌*◌, ◌≤◌, get_or};
 ghost use Rattle.condition.specs.Measures.{Ranges, now_at};
 ghost use Rattle.nodes.specs.Ranks.{rank};

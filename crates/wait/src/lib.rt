@@ -1,5 +1,7 @@
 // Wait (4): the job inside gives a condition. True: it stays inside, no ticket, no search. False: it takes the next ticket, a search is made, and it
 // waits. Nothing is stored before the last test.
+#![tactic(auto)]
+
 ghost use Rattle.std.specs.Prelude.{◌≡◌, false, ℕ, ◌<◌, ◌≤◌, get_or};
 ghost use Rattle.rules.specs.Limits.{tickets};
 ghost use Rattle.rules.specs.Condition.{condition_true, closure};
