@@ -1,5 +1,7 @@
 // "Two conditions are identical if, after closure, they have the same alternatives in the same order, with the same atoms in the same order:
 // measure, operator and key."
+#![tactic(auto)]
+
 ghost use Rattle.std.specs.Prelude.{◌≡◌, ◌<◌};
 ghost use Rattle.rules.specs.Base.{each};
 ghost use Rattle.rules.specs.Limits.{key_most};

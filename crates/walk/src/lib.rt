@@ -1,5 +1,7 @@
 // One alternative after the other, in the order in which their nodes are given, up to the first true one: what a search does with each stretch
 // of the index. It tells the node that was found and how many alternatives were evaluated.
+#![tactic(auto)]
+
 ghost use Rattle.std.specs.Prelude.{◌≡◌};
 ghost use Rattle.condition.specs.Measures.{Ranges, now_at};
 ghost use Rattle.walk.specs.Walks.{node_true, walked};
