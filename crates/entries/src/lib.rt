@@ -1,5 +1,7 @@
 // Waiting jobs with identical conditions share an entry, and its lead is the oldest of them. `entry` has a number for each job: 0 if the job does
 // not wait, otherwise its lead's number and one.
+#![tactic(auto)]
+
 ghost use Rattle.std.specs.Prelude.{◌≡◌, ℕ, ◌+◌, ◌<◌, get_or};
 ghost use Rattle.rules.specs.Limits.{key_most};
 ghost use Rattle.rules.specs.Condition.{Condition};
@@ -61,6 +63,7 @@ fn leads_like(
 }
 
 // The first lead whose condition is the job's, or 32.
+#[tactic(auto, using(crate::proofs::Laws::firsts))]
 fn lead_like(
     entry: &[u8; 32],
     alternatives: &[u8; 32],
@@ -125,6 +128,7 @@ fn choose(entry: &[u8; 32], ticket: &[u32; 32], of: u8, best: usize, k: usize) -
 }
 
 // The oldest of the jobs whose entry says `of`, or 32.
+#[tactic(auto, using(crate::proofs::Laws::oldest))]
 fn oldest_of(entry: &[u8; 32], ticket: &[u32; 32], of: u8) -> usize
     ensures { result ≡ oldest_of entry.now ticket.now of 32 }
 {
