@@ -1,6 +1,8 @@
 // Closure (definition 2 of the paper): the local values put in, an atom's coefficients times them plus its constant leave a key. What stands in
 // a Wait's slots goes into the slots of a job: its alternative count, the atom count of each node, and of each atom measure, operator as
 // written, and key. A Wait's slots past a count are 0, and so their keys are.
+#![tactic(auto)]
+
 ghost use Rattle.std.specs.Prelude.{◌≡◌, ◌*◌, ◌<◌};
 ghost use Rattle.std.proofs.lemmas.List.Edits.{sets};
 ghost use Rattle.rules.specs.Limits.{coefficient_most, value_most};

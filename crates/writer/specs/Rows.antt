@@ -1,6 +1,7 @@
 -- So many of one form, out of slots: none is left, or one is put and then the rest, one fewer.
 use Rattle.std.specs.Prelude.{◌≡◌, refl, List, [], ℕ, suc, ◌+◌, ◌-◌}
 use Rattle.std.proofs.Common.{sym, ap, ◌∙◌, subst, add-zero, arith}
+use Rattle.std.proofs.lemmas.List.Edits.{sets}
 use Rattle.rules.specs.Writer.{Written, written, ◌then◌, all-written}
 use Rattle.rules.specs.Laws.Halves.{written_same}
 use Rattle.condition.specs.From.{from}
@@ -15,7 +16,7 @@ module _ {A : Type 0} (w : A → Written) (f : ℕ → A) (first count : ℕ) wh
   pub row-none : (out : List ℕ) (at : ℕ) → count ≡ 0 → Puts row out out at (Next at)
   row-none out at e =
       let none : row ≡ written [] = ap (λ n. all-written w (from f n first)) e in
-      record { place = ap Next (sym (add-zero at)) ∙ sym (ap (place_after at) none); stored = λ l d. ap (lib.Seq.sets out at) (written_same (sym none ∙ d)); long = refl }
+      record { place = ap Next (sym (add-zero at)) ∙ sym (ap (place_after at) none); stored = λ l d. ap (sets out at) (written_same (sym none ∙ d)); long = refl }
 
   module _ (some : count ≡ 0 → ⊥) where
     row_is : row ≡ (w (f first) then all-written w (from f (count - 1) (first + 1)))
