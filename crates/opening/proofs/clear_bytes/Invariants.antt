@@ -1,5 +1,5 @@
 -- `clear_bytes` meets its contract: the slots passed are 0.
-use Rattle.std.proofs.Common.{◌-◌, length, pos}
+use Rattle.std.proofs.Common.{◌-◌, length}
 use Rattle.wire.specs.Clear.{FilledWith}
 use Rattle.opening.proofs.clear_bytes.Given as goal
 

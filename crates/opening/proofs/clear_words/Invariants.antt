@@ -1,5 +1,5 @@
 -- `clear_words` meets its contract: the slots passed are 0.
-use Rattle.std.proofs.Common.{◌-◌, length, pos}
+use Rattle.std.proofs.Common.{◌-◌, length}
 use Rattle.wire.specs.Clear.{FilledWith}
 use Rattle.opening.proofs.clear_words.Given as goal
 
