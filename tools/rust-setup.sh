@@ -18,13 +18,16 @@ need() {
     apt-get -qq update && apt-get -qq -y --no-install-recommends install "$@" >/dev/null || fail "no $command, and Debian gave none"
 }
 
-# `rt staticlib` proves anew each time: only when something changed since
+# `rt lib` makes it in the crate's out/; what the compilers link is a copy, made anew only when something changed since
 archive() {
     local made=target/staticlib/lib$1.a said
-    if [ -f "$made" ] && [ -z "$(find crates crates.txt "$(readlink -f "$(command -v rt)")" -newer "$made" -print -quit)" ]; then
+    if [ -f "$made" ] && [ -z "$(find crates crates.txt "$(readlink -f "$(command -v rt)")" -path 'crates/*/out' -prune -o -newer "$made" -print -quit)" ]; then
         return
     fi
-    said=$(rt staticlib "$1" 2>&1) || fail "$said"
+    said=$(cd "crates/$1" && rt lib 2>&1) || fail "$said"
+    mkdir -p target/staticlib
+    cp "crates/$1/out/lib$1.a" "$made.new"
+    mv -f "$made.new" "$made"
 }
 
 x86_rust() {
@@ -37,7 +40,7 @@ x86_rust() {
 }
 
 # ---- Arm alone: a compiler that has the x86-64 standard library, from Debian's packages, and the kit's clang as its linker. They go into the
-# user's cache, since `rt ci` removes target/, and are not installed.
+# user's cache, which every checkout shares, and are not installed.
 
 x86_rust_on_arm() {
     local kit tools ready cross id variable

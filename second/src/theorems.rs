@@ -3,14 +3,14 @@
 use crate::listing::listing;
 
 const IMPORTS: &str = "\
-use mathlib.Core.Path.{_≡_, refl}
-use mathlib.Core.List.{List, [], _∷_}
-use Prim.Native.Nat.{ℕ}
-use Rattle·rules.specs.Listing.{listing, text}
+use Rattle.std.specs.Prelude.{◌≡◌, refl, [], ◌∷◌}
+use Rattle.rules.specs.Listing.{listing, text}
 ";
 
 pub const PROGRAM: &str = "\
 // Made by second's `agree`: listings computed from the rules, held against the second implementation.
+#![tactic(auto)]
+
 pub fn zero() -> u64 {
     0
 }

@@ -6,10 +6,8 @@ use second::theorems::{module_file, theorem_file};
 fn a_file_of_two_theorems() {
     let text = theorem_file(20, &[vec![1, 2, 0], vec![]]);
     let expected = "\
-use mathlib.Core.Path.{_≡_, refl}
-use mathlib.Core.List.{List, [], _∷_}
-use Prim.Native.Nat.{ℕ}
-use Rattle·rules.specs.Listing.{listing, text}
+use Rattle.std.specs.Prelude.{◌≡◌, refl, [], ◌∷◌}
+use Rattle.rules.specs.Listing.{listing, text}
 
 pub stream-20 : listing (1 ∷ 2 ∷ 0 ∷ []) ≡ text \"open refused 1\\n\"
 stream-20 = refl
