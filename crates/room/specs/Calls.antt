@@ -1,9 +1,8 @@
 -- A search moves at most one job, from waiting to called: the one that the rules' search finds, who is in the index and leaves it.
-use Rattle.std.specs.Prelude.{◌≡◌, refl, ◌⊎◌, List, ℕ, ◌<◌, ◌≤◌, eqb, ℤ, get_or, set}
+use Rattle.std.specs.Prelude.{◌≡◌, refl, List, ℕ, ◌<◌, ◌≤◌, eqb, ℤ, get_or, set}
 use Rattle.std.proofs.Common.{sym, ap, ◌∙◌, subst, arith, length-set, get_or-set_same, get_or-set_other, eq-eqb, ne_eqb, eqb-true, lt-ltb}
 use Rattle.std.proofs.Math.Option.{Option, none, some}
 use Rattle.rules.specs.Laws.Cases.{by_eq}
-use Rattle.rules.specs.Base.{if◌then◌else◌}
 use Rattle.rules.specs.Search.{Waiter, Pair, found, evaluated}
 use Rattle.rules.specs.Laws.Waiting.{pair_of}
 use Rattle.rules.proofs.Demands.Calls.{found-true}

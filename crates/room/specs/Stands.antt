@@ -3,7 +3,7 @@ use Rattle.std.specs.Prelude.{◌≡◌, refl, false, List, ℕ, ◌<◌, ◌≤
 use Rattle.std.proofs.Common.{sym, ap, ◌∙◌, arith, length-set, get_or-set_same, get_or-set_other}
 use Rattle.std.proofs.Math.Option.{Option, none, some}
 use Rattle.rules.specs.Laws.Cases.{by_eq}
-use Rattle.rules.specs.Room.{called, stand, now}
+use Rattle.rules.specs.Room.{called, stand}
 use Rattle.rules.specs.Search.{Waiter, Pair, found, evaluated}
 use Rattle.rules.specs.Step.{call}
 use Rattle.condition.specs.Closes.{condition_in}
