@@ -5,7 +5,7 @@ ghost use Rattle.fields.specs.Answers.{as_number};
 ghost use Rattle.fields.specs.Groups.{Bounded};
 
 // A number and the place after it, or refusal 1 or 2 (and, of a field, 3 or 4).
-#[derive(Drop)]
+#[derive(Clone, Copy)]
 pub enum Number {
     Got(u64, usize),
     Refused(u8),

@@ -7,7 +7,7 @@ ghost use Rattle.rules.specs.Tally.{plus as plus_of};
 ghost use Rattle.tally.specs.Added.{added_tally};
 
 #[repr(C)]
-#[derive(Drop)]
+#[derive(Clone, Copy)]
 pub struct Tally {
     pub events: u64,
     pub calls: u64,
