@@ -1,8 +1,8 @@
 -- `all` and `any` along places, one place after the other: the laws' premises are the facts that a loop has at its test.
-use Rattle.std.specs.Prelude.{◌≡◌, refl, Bool, true, false, ◌&&◌, ℕ, zero, suc, ◌+◌, ◌-◌, ◌<◌, ◌≤◌}
+use Rattle.std.specs.Prelude.{◌≡◌, refl, Bool, true, false, ◌&&◌, ℕ, zero, suc, ◌+◌, ◌-◌, ◌<◌, ◌≤◌, if◌then◌else◌}
 use Rattle.std.proofs.Common.{sym, ap, ◌∙◌, add-zero, arith}
 use Rattle.std.proofs.Math.Nat.{sub-zero}
-use Rattle.rules.specs.Base.{if◌then◌else◌, all, any, each}
+use Rattle.rules.specs.Base.{all, any, each}
 use Rattle.condition.specs.From.{from}
 
 left_one : (n i : ℕ) → i < n → n - i ≡ suc (n - (i + 1))

@@ -1,5 +1,5 @@
 -- The tag by its slot is the rules' tag: the first place along the slots at which the operator is = , or else one of <, ≤, > and ≥.
-use Rattle.std.specs.Prelude.{◌≡◌, refl, Bool, true, false, ◌&&◌, List, leb, ltb, eqb, ℤ, get_or}
+use Rattle.std.specs.Prelude.{◌≡◌, refl, Bool, true, false, ◌&&◌, List, leb, ltb, eqb, ℤ, get_or, if◌then◌else◌}
 use Rattle.std.proofs.Common.{sym, ◌∙◌, add-zero}
 use Rattle.std.proofs.Math.Path.{ap}
 use Rattle.std.proofs.Math.Bool.{and-true}
@@ -8,7 +8,7 @@ use Prim.Native.Nat.{ℕ, zero, suc, ◌+◌, ◌-◌, ◌*◌, ◌<◌, ◌≤�
 use Rattle.std.proofs.Math.Nat.{sub-zero}
 use native.Mathlib.Omega.{arith}
 use borrow.Author.Tests.{le-leb, lt-leb, lt-ltb, le-ltb, ne_eqb, ltb-true}
-use Rattle.rules.specs.Base.{if◌then◌else◌, first}
+use Rattle.rules.specs.Base.{first}
 use Rattle.rules.specs.Condition.{Atom, atom_true}
 use Rattle.rules.specs.Tag.{tag, or_else, is_equality, is_threshold, holds}
 use Rattle.rules.specs.Laws.In.{by_bool}

@@ -1,11 +1,11 @@
 -- A walk over a heap's nodes in the order of their ranks, while their tags hold: each root that is taken off is the next of the list.
-use Rattle.std.specs.Prelude.{◌≡◌, refl, Bool, true, false, List, [], ◌∷◌, ℤ}
+use Rattle.std.specs.Prelude.{◌≡◌, refl, Bool, true, false, List, [], ◌∷◌, ℤ, if◌then◌else◌}
 use Rattle.std.proofs.Math.Path.{sym, ap}
 use Rattle.std.proofs.Common.{◌∙◌}
 use Prim.Native.Nat.{ℕ, suc, ◌+◌, ◌-◌, ◌%◌, ◌<◌, ◌≤◌}
 use native.Mathlib.Omega.{arith}
 use Rattle.std.proofs.Math.ListN.{get_or}
-use Rattle.rules.specs.Base.{if◌then◌else◌, first}
+use Rattle.rules.specs.Base.{first}
 use Rattle.rules.specs.Tag.{holds}
 use Rattle.rules.specs.Laws.InRankOrder.{up_to}
 use Rattle.condition.specs.Tags.{tag_at, tag_means}

@@ -1,8 +1,7 @@
 -- A job joins the index: alone, behind a lead that is older, or as the new lead of an entry. If nobody waits with its condition, every lead is as
 -- before, and the job is its own.
-use Rattle.std.specs.Prelude.{◌≡◌, refl, Bool, true, false, List, ℕ, ◌+◌, ◌-◌, ◌<◌, ◌≤◌, eqb, get_or, length}
+use Rattle.std.specs.Prelude.{◌≡◌, refl, Bool, true, false, List, ℕ, ◌+◌, ◌-◌, ◌<◌, ◌≤◌, eqb, get_or, length, if◌then◌else◌}
 use Rattle.std.proofs.Common.{sym, ap, ◌∙◌, arith, eq-eqb, ne_eqb}
-use Rattle.rules.specs.Base.{if◌then◌else◌}
 use Rattle.rules.specs.Condition.{Condition}
 use Rattle.rules.specs.Laws.Cases.{by_eq}
 use Rattle.entries.specs.Entries.{Waits, is_lead, Led, Entries, led-named}

@@ -1,8 +1,7 @@
 -- The job of an entry with the least ticket: it is chosen going along the jobs, and whoever was passed has no less.
-use Rattle.std.specs.Prelude.{◌≡◌, refl, List, eqb, ltb, get_or}
+use Rattle.std.specs.Prelude.{◌≡◌, refl, List, eqb, ltb, get_or, if◌then◌else◌}
 use Rattle.std.proofs.Common.{sym, ap, ◌∙◌, arith, add-one, eq-eqb, ne_eqb, lt-ltb, le-ltb}
 use Prim.Native.Nat.{ℕ, zero, suc, ◌+◌, ◌<◌, ◌≤◌}
-use Rattle.rules.specs.Base.{if◌then◌else◌}
 use Rattle.rules.specs.Laws.Cases.{by_eq, by_lt}
 
 -- the job k, or the best of those before it; 32 is none

@@ -1,8 +1,7 @@
 -- A job leaves the index: behind its lead, as the last of its entry, or as a lead whom the next oldest follows. Unless it leaves others behind that
 -- it led, every lead is as before.
-use Rattle.std.specs.Prelude.{◌≡◌, refl, Bool, true, false, List, ℕ, ◌+◌, ◌-◌, ◌<◌, ◌≤◌, eqb, get_or, length}
+use Rattle.std.specs.Prelude.{◌≡◌, refl, Bool, true, false, List, ℕ, ◌+◌, ◌-◌, ◌<◌, ◌≤◌, eqb, get_or, length, if◌then◌else◌}
 use Rattle.std.proofs.Common.{sym, ap, ◌∙◌, arith, eq-eqb, ne_eqb}
-use Rattle.rules.specs.Base.{if◌then◌else◌}
 use Rattle.rules.specs.Condition.{Condition}
 use Rattle.rules.specs.Laws.Cases.{by_eq}
 use Rattle.entries.specs.Entries.{Waits, is_lead, Entries, Distinct, led-named, one_entry, lead-leads}

@@ -1,7 +1,6 @@
 -- Every entry that says one number says another afterwards, and the others are as they were: place by place, from the first on.
-use Rattle.std.specs.Prelude.{◌≡◌, refl, List, ℕ, ◌+◌, ◌<◌, ◌≤◌, eqb, get_or, set, length}
+use Rattle.std.specs.Prelude.{◌≡◌, refl, List, ℕ, ◌+◌, ◌<◌, ◌≤◌, eqb, get_or, set, length, if◌then◌else◌}
 use Rattle.std.proofs.Common.{ap, ◌∙◌, arith, length-set, get_or-set_same, get_or-set_other, eq-eqb, ne_eqb}
-use Rattle.rules.specs.Base.{if◌then◌else◌}
 use Rattle.rules.specs.Laws.Cases.{by_eq}
 
 abbrev pub renamed : ℕ → ℕ → ℕ → ℕ

@@ -1,9 +1,8 @@
 -- The home of a tag in the index. The key has no part in it, so that of a node is known by the measure and the operator in its tag's slot.
-use Rattle.std.specs.Prelude.{◌≡◌, refl, List, ℕ, ◌+◌, ◌*◌, ◌<◌, ◌≤◌, eqb, leb, ℤ, get_or}
+use Rattle.std.specs.Prelude.{◌≡◌, refl, List, ℕ, ◌+◌, ◌*◌, ◌<◌, ◌≤◌, eqb, leb, ℤ, get_or, if◌then◌else◌}
 use Rattle.std.proofs.Common.{sym, ap, ◌∙◌, arith, eq-eqb, ne_eqb, le-leb}
 use Rattle.std.proofs.Math.Option.{Option, none, some}
 use Rattle.std.proofs.lemmas.Bool.{lt-leb}
-use Rattle.rules.specs.Base.{if◌then◌else◌}
 use Rattle.rules.specs.Condition.{Atom}
 use Rattle.rules.specs.Tag.{is_equality}
 use Rattle.rules.specs.Rank.{is_upward}

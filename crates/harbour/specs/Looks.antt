@@ -1,8 +1,7 @@
 -- What a host sees of its room: of a room that came from an accepted opening and events, the rules' standings, the job inside and the values.
-use Rattle.std.specs.Prelude.{◌≡◌, refl, false, List, [], ◌∷◌, ◌⊎◌, ℕ, zero, suc, ◌+◌, ◌-◌, ◌<◌, ◌≤◌, eqb, get_or, length}
+use Rattle.std.specs.Prelude.{◌≡◌, refl, false, List, [], ◌∷◌, ◌⊎◌, ℕ, zero, suc, ◌+◌, ◌-◌, ◌<◌, ◌≤◌, eqb, get_or, length, if◌then◌else◌}
 use Rattle.std.proofs.Common.{sym, ap, ◌∙◌, inl, inr, arith, eq-eqb, ne_eqb, eqb-true}
 use Rattle.rules.specs.Laws.Cases.{by_lt}
-use Rattle.rules.specs.Base.{if◌then◌else◌}
 use Rattle.rules.specs.Condition.{Condition}
 use Rattle.rules.specs.Room.{Standing, outside, door, inside, waiting, called, standing}
 use Rattle.rules.specs.Room as rules

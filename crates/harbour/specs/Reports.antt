@@ -1,7 +1,6 @@
 -- A host's report: the numbers for each of document 01's reports, and what numbers mean. An event's answer, told in these numbers, is the rules' report.
-use Rattle.std.specs.Prelude.{◌≡◌, refl, List, [], ℕ, ◌≤◌, eqb, ltb, length}
+use Rattle.std.specs.Prelude.{◌≡◌, refl, List, [], ℕ, ◌≤◌, eqb, ltb, length, if◌then◌else◌}
 use Rattle.std.proofs.Common.{ap, sym, ◌∙◌, subst, arith, lt-ltb}
-use Rattle.rules.specs.Base.{if◌then◌else◌}
 use Rattle.rules.specs.Room.{Room}
 use Rattle.rules.specs.Step.{accepted, refusal, nothing}
 use Rattle.rules.specs.Step as rules

@@ -1,9 +1,8 @@
 -- What `put_nodes` and `cut_nodes` ask is so where the leads' nodes are filed: a job that leads has its nodes there, and for one that does not
 -- there is room.
-use Rattle.std.specs.Prelude.{◌≡◌, refl, Bool, true, false, List, ℕ, ◌<◌, ◌≤◌, eqb, get_or, length}
+use Rattle.std.specs.Prelude.{◌≡◌, refl, Bool, true, false, List, ℕ, ◌<◌, ◌≤◌, eqb, get_or, length, if◌then◌else◌}
 use Rattle.std.proofs.Common.{eq-eqb, ne_eqb}
 use Rattle.rules.specs.Laws.Cases.{by_eq}
-use Rattle.rules.specs.Base.{if◌then◌else◌}
 use Rattle.rules.specs.Laws.In.{true-not-false}
 use Rattle.condition.specs.Closing.{ClosedSlots}
 use Rattle.homes.specs.Moves.{times_in_home}

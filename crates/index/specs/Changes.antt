@@ -1,8 +1,7 @@
 -- What joining and parting leave is an index again: of the jobs that waited and the new one, or of those but the one that left.
-use Rattle.std.specs.Prelude.{◌≡◌, refl, true, false, List, ℕ, ◌+◌, ◌*◌, ◌<◌, eqb, ltb, get_or, length}
+use Rattle.std.specs.Prelude.{◌≡◌, refl, true, false, List, ℕ, ◌+◌, ◌*◌, ◌<◌, eqb, ltb, get_or, length, if◌then◌else◌}
 use Rattle.std.proofs.Common.{sym, ◌∙◌, arith, eq-eqb, ne_eqb, eqb-true, lt-ltb, le-ltb}
 use Rattle.rules.specs.Laws.Cases.{by_eq, by_lt}
-use Rattle.rules.specs.Base.{if◌then◌else◌}
 use Rattle.condition.specs.Closing.{ClosedSlots}
 use Rattle.condition.specs.Closes.{condition_in}
 use Rattle.ranks.specs.Words.{high_word, low_word}

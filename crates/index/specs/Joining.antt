@@ -1,7 +1,6 @@
 -- A job joins: what each answer of `join_entry` leaves to do, and that it makes an index of what there is then.
-use Rattle.std.specs.Prelude.{◌≡◌, Bool, false, List, ℕ, ◌+◌, ◌<◌, eqb, get_or}
+use Rattle.std.specs.Prelude.{◌≡◌, Bool, false, List, ℕ, ◌+◌, ◌<◌, eqb, get_or, if◌then◌else◌}
 use Rattle.std.proofs.Common.{sym, arith, ne_eqb}
-use Rattle.rules.specs.Base.{if◌then◌else◌}
 use Rattle.condition.specs.Closing.{ClosedSlots}
 use Rattle.condition.specs.Closes.{condition_in}
 use Rattle.nodes.specs.Ranks.{rank}

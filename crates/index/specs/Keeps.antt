@@ -1,8 +1,7 @@
 -- Nodes that were put into their homes are among those filed, and nodes that were taken out are not; and a home has room for every job's nodes
 -- but its own: it holds each node once.
-use Rattle.std.specs.Prelude.{◌≡◌, refl, Bool, true, false, ◌&&◌, List, ℕ, ◌/◌, ◌<◌, ◌≤◌, eqb, get_or}
+use Rattle.std.specs.Prelude.{◌≡◌, refl, Bool, true, false, ◌&&◌, List, ℕ, ◌/◌, ◌<◌, ◌≤◌, eqb, get_or, if◌then◌else◌}
 use Rattle.std.proofs.Common.{ap, ◌∙◌, arith, eq-eqb}
-use Rattle.rules.specs.Base.{if◌then◌else◌}
 use Rattle.rules.specs.Laws.In.{by_bool}
 use Rattle.nodes.specs.Counts.{bit}
 use Rattle.homes.specs.Regions.{region}

@@ -1,9 +1,8 @@
 -- The nodes of the leads. One lead more is its nodes in their homes, one lead less is its nodes out of them; and a home has room for the nodes of
 -- a job that does not lead.
-use Rattle.std.specs.Prelude.{◌≡◌, refl, Bool, true, false, ◌&&◌, List, ℕ, ◌/◌, ◌%◌, ◌<◌, ◌≤◌, eqb, ltb, get_or}
+use Rattle.std.specs.Prelude.{◌≡◌, refl, Bool, true, false, ◌&&◌, List, ℕ, ◌/◌, ◌%◌, ◌<◌, ◌≤◌, eqb, ltb, get_or, if◌then◌else◌}
 use Rattle.std.proofs.Common.{ap, arith, eq-eqb, ne_eqb, lt-ltb}
 use Rattle.rules.specs.Laws.Cases.{by_eq}
-use Rattle.rules.specs.Base.{if◌then◌else◌}
 use Rattle.rules.specs.Laws.In.{by_bool, both}
 use Rattle.condition.specs.Closing.{ClosedSlots}
 use Rattle.condition.specs.Tags.{tag_at}

@@ -1,8 +1,7 @@
 -- A job parts: what each answer of `part_entry` leaves to do, and that it makes an index of what there is then.
-use Rattle.std.specs.Prelude.{◌≡◌, refl, Bool, true, false, List, ℕ, eqb}
+use Rattle.std.specs.Prelude.{◌≡◌, refl, Bool, true, false, List, ℕ, eqb, if◌then◌else◌}
 use Rattle.std.proofs.Common.{sym, ◌∙◌, eq-eqb, ne_eqb}
 use Rattle.rules.specs.Laws.Cases.{by_eq}
-use Rattle.rules.specs.Base.{if◌then◌else◌}
 use Rattle.condition.specs.Closing.{ClosedSlots}
 use Rattle.condition.specs.Closes.{condition_in}
 use Rattle.nodes.specs.Ranks.{rank}

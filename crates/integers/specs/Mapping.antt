@@ -1,7 +1,7 @@
 -- How far from 0 the number is that n stands for: half of n, rounded up. So a range is judged before the sign is made. And a signed number in the machine, by its
 -- sign: which half of a number it is.
 use mathlib.Core.Path.{◌≡◌, refl, sym, ap, ◌∙◌}
-use Rattle.std.specs.Prelude.{Bool, true, false, eqb, ℤ, pos, negsuc, nat_abs, ◌-ℤ◌}
+use Rattle.std.specs.Prelude.{Bool, true, false, eqb, ℤ, pos, negsuc, nat_abs, ◌-ℤ◌, if◌then◌else◌}
 use Prim.Native.Nat.{ℕ, suc, ◌+◌, ◌-◌, ◌*◌, ◌/◌, ◌%◌, ◌<◌}
 use Rattle.std.proofs.Common.{arith, SFits, to_z, of_z, eqb-true, le-ltb}
 use Rattle.std.specs.Int.Signed.{lt_z}
@@ -9,7 +9,6 @@ use Rattle.std.specs.Int.{w64}
 use Rattle.integers.specs.Machine.{back}
 use Rattle.rules.specs.Writer.{unsigned}
 use Rattle.std.proofs.lemmas.Bool.{eqb-false}
-use Rattle.rules.specs.Base.{if◌then◌else◌}
 use Rattle.rules.specs.Number.{signed}
 
 pub size_of : (n : ℕ) → nat_abs (signed n) ≡ (n + 1) / 2

@@ -1,8 +1,7 @@
 -- Text written into a buffer, byte by byte from a place on, and cut at the buffer's end: one text after another is their join.
-use Rattle.std.specs.Prelude.{◌≡◌, refl, List, [], ◌∷◌, ◌++◌, ℕ, suc, ◌+◌, ◌<◌, ◌≤◌, min, ltb, length, get_or, take, drop, set}
+use Rattle.std.specs.Prelude.{◌≡◌, refl, List, [], ◌∷◌, ◌++◌, ℕ, suc, ◌+◌, ◌<◌, ◌≤◌, min, ltb, length, get_or, take, drop, set, if◌then◌else◌}
 use Rattle.std.proofs.Common.{sym, ap, ◌∙◌, append_assoc, add-one, arith, length-append, take-suc, take_all, lt-ltb, le-ltb}
 use Rattle.std.proofs.Math.Seq.{set-append_seam, take-length}
-use Rattle.rules.specs.Base.{if◌then◌else◌}
 
 -- a buffer, and the place after what was written
 pub record Output : Type 0 where

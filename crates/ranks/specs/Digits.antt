@@ -1,9 +1,8 @@
 -- Two ranks, and two numbers v and w that are to be in their order. Where the ranks' first numbers differ they decide, as `before` says;
 -- where not, what is left of the ranks does.
-use Rattle.std.specs.Prelude.{◌≡◌, refl, Bool, true, false, ℕ, ◌<◌, ltb, ℤ, pos}
+use Rattle.std.specs.Prelude.{◌≡◌, refl, Bool, true, false, ℕ, ◌<◌, ltb, ℤ, pos, if◌then◌else◌}
 use Rattle.std.proofs.Common.{sym, ◌∙◌, arith, ltb-true, ltb-false, lt-ltb, le-ltb}
 use Rattle.std.specs.Int.Signed.{lt_z}
-use Rattle.rules.specs.Base.{if◌then◌else◌}
 use Rattle.rules.specs.Laws.In.{by_bool}
 use Rattle.rules.specs.Laws.Bounds.{Within}
 use Rattle.ranks.specs.Words.{key_room, biased}

@@ -1,7 +1,6 @@
 -- A rank as one number: the numbers that rank an alternative (Rank of the rules), packed from the most telling down.
-use Rattle.std.specs.Prelude.{List, ℕ, suc, ◌+◌, ◌*◌, ◌-◌, ◌^◌, ◌%◌, ◌<◌, ℤ, pos, negsuc, neg_ℤ}
+use Rattle.std.specs.Prelude.{List, ℕ, suc, ◌+◌, ◌*◌, ◌-◌, ◌^◌, ◌%◌, ◌<◌, ℤ, pos, negsuc, neg_ℤ, if◌then◌else◌}
 use Rattle.std.proofs.Math.Option.{Option, none, some}
-use Rattle.rules.specs.Base.{if◌then◌else◌}
 use Rattle.rules.specs.Condition.{Atom}
 use Rattle.rules.specs.Tag.{tag, is_equality}
 use Rattle.rules.specs.Rank.{is_upward}

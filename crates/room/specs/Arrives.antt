@@ -1,7 +1,6 @@
 -- Arrive: outside to door.
-use Rattle.std.specs.Prelude.{◌≡◌, refl, List, ℕ, ◌<◌, eqb, get_or, set}
+use Rattle.std.specs.Prelude.{◌≡◌, refl, List, ℕ, ◌<◌, eqb, get_or, set, if◌then◌else◌}
 use Rattle.std.proofs.Common.{ap, ◌∙◌, arith, eqb-true, eq-eqb, ne_eqb}
-use Rattle.rules.specs.Base.{if◌then◌else◌}
 use Rattle.rules.specs.Room.{is_outside, standing, stand}
 use Rattle.rules.specs.Step.{arrive}
 use Rattle.rules.specs.Laws.In.{by_bool}

@@ -1,8 +1,7 @@
 -- Set: the job inside gives a shared variable a value.
-use Rattle.std.specs.Prelude.{◌≡◌, refl, List, ℕ, ◌<◌, eqb, ℤ, pos, get_or, set}
+use Rattle.std.specs.Prelude.{◌≡◌, refl, List, ℕ, ◌<◌, eqb, ℤ, pos, get_or, set, if◌then◌else◌}
 use Rattle.std.proofs.Common.{ap, ◌∙◌, arith, eq-eqb, ne_eqb, length-set, get_or-set_same, get_or-set_other}
 use Rattle.rules.specs.Laws.Cases.{by_eq}
-use Rattle.rules.specs.Base.{if◌then◌else◌}
 use Rattle.rules.specs.Limits.{value_most}
 use Rattle.rules.specs.Room.{is_inside, standing}
 use Rattle.rules.specs.Step.{assign}

@@ -1,7 +1,7 @@
 -- Whether somebody is inside: one of the 32 standings is.
-use Rattle.std.specs.Prelude.{◌≡◌, refl, Bool, true, false, List, ℕ, zero, suc, ◌+◌, ◌-◌, ◌<◌, ◌≤◌, eqb, get_or}
+use Rattle.std.specs.Prelude.{◌≡◌, refl, Bool, true, false, List, ℕ, zero, suc, ◌+◌, ◌-◌, ◌<◌, ◌≤◌, eqb, get_or, if◌then◌else◌}
 use Rattle.std.proofs.Common.{arith, eq-eqb, ne_eqb}
-use Rattle.rules.specs.Base.{if◌then◌else◌, any}
+use Rattle.rules.specs.Base.{any}
 use Rattle.rules.specs.Room.{is_inside}
 use Rattle.rules.specs.Step.{occupied}
 use Rattle.condition.specs.From.{from}

@@ -1,9 +1,8 @@
 -- Document 01's report for each case of the code's.
-use Rattle.std.specs.Prelude.{◌≡◌, refl, List, ℕ, zero, suc, ◌≤◌, eqb, ltb, ℤ}
+use Rattle.std.specs.Prelude.{◌≡◌, refl, List, ℕ, zero, suc, ◌≤◌, eqb, ltb, ℤ, if◌then◌else◌}
 use Rattle.std.proofs.Common.{sym, ap, ◌∙◌, arith, lt-ltb, le-ltb}
 use Rattle.std.proofs.Math.Option.{Option, none, some}
 use Rattle.rules.specs.Laws.Cases.{by_lt}
-use Rattle.rules.specs.Base.{if◌then◌else◌}
 use Rattle.rules.specs.Search.{Waiter, Pair, found, evaluated}
 use Rattle.rules.specs.Step.{Outcome, done, enters, waits, on, back, accepted, refusal, job_of, called_in}
 use Rattle.rules.specs.Step as rules

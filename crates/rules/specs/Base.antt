@@ -1,11 +1,6 @@
--- Choices by a test, and lists by a test: what the library has only for decisions.
-use Rattle.std.specs.Prelude.{Bool, true, false, ◌&&◌, List, [], ◌∷◌, ◌++◌, eqb, ℤ, pos, negsuc}
+-- Lists by a test: what the library has only for decisions.
+use Rattle.std.specs.Prelude.{Bool, true, false, if◌then◌else◌, ◌&&◌, List, [], ◌∷◌, ◌++◌, eqb, ℤ, pos, negsuc}
 use Rattle.std.proofs.Math.Option.{Option, none, some}
-
-infixr 5 if◌then◌else◌
-abbrev pub if◌then◌else◌ : {A : Type 0} → Bool → A → A → A
-if true then a else b = a
-if false then a else b = b
 
 module _ {A : Type 0} where
   -- those that pass the test, in their order

@@ -1,7 +1,6 @@
 -- "Bytes": numbers, and the fields that a record is read by. A field's bytes are judged first (refusal 1 or 2), then its
 -- range (3 or 4), and reading stops at the first field that can't be taken.
-use Rattle.std.specs.Prelude.{Bool, true, false, ◌&&◌, ◌||◌, List, [], ◌∷◌, ℕ, zero, suc, ◌+◌, ◌*◌, ◌-◌, ◌/◌, ◌%◌, leb, ltb, eqb, ℤ, pos, negsuc, nat_abs}
-use Rattle.rules.specs.Base.{if◌then◌else◌}
+use Rattle.std.specs.Prelude.{Bool, true, false, ◌&&◌, ◌||◌, List, [], ◌∷◌, ℕ, zero, suc, ◌+◌, ◌*◌, ◌-◌, ◌/◌, ◌%◌, leb, ltb, eqb, ℤ, pos, negsuc, nat_abs, if◌then◌else◌}
 
 -- what was read and the bytes after it, or a refusal
 pub data Read (A : Type 0) : Type 0 where

@@ -1,8 +1,7 @@
 -- "Which job a search calls": a rank is a list of numbers, and the first two that differ decide.
-use Rattle.std.specs.Prelude.{Bool, true, false, List, [], ◌∷◌, ◌++◌, ℕ, ◌%◌, leb, ℤ, pos, neg_ℤ}
+use Rattle.std.specs.Prelude.{Bool, true, false, List, [], ◌∷◌, ◌++◌, ℕ, ◌%◌, leb, ℤ, pos, neg_ℤ, if◌then◌else◌}
 use Rattle.std.proofs.Math.Option.{Option, none, some}
 use Rattle.std.specs.Int.Signed.{lt_z}
-use Rattle.rules.specs.Base.{if◌then◌else◌}
 use Rattle.rules.specs.Condition.{Atom}
 use Rattle.rules.specs.Tag.{tag, is_equality}
 

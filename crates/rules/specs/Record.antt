@@ -1,6 +1,5 @@
 -- "Bytes": an opening and an event, field by field.
-use Rattle.std.specs.Prelude.{List, ℕ, eqb, ℤ}
-use Rattle.rules.specs.Base.{if◌then◌else◌}
+use Rattle.std.specs.Prelude.{List, ℕ, eqb, ℤ, if◌then◌else◌}
 use Rattle.rules.specs.Limits.{jobs, variables, measures_most, value_most, coefficient_most, parts_most, locals, kind_most, operator_most}
 use Rattle.rules.specs.Number.{Reader, pure, ◌>>=◌, times, field, below, signed_field}
 use Rattle.rules.specs.Condition.{Given}

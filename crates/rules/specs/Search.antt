@@ -1,7 +1,7 @@
 -- "Which job a search calls", and the evaluated count: every pair of a waiting job and an alternative is looked at.
-use Rattle.std.specs.Prelude.{Bool, true, not, ◌&&◌, List, [], ◌∷◌, ◌++◌, ℕ, suc, ltb, length, ℤ}
+use Rattle.std.specs.Prelude.{Bool, true, not, ◌&&◌, List, [], ◌∷◌, ◌++◌, ℕ, suc, ltb, length, ℤ, if◌then◌else◌}
 use Rattle.std.proofs.Math.Option.{Option, none, some}
-use Rattle.rules.specs.Base.{if◌then◌else◌, those, any, gather}
+use Rattle.rules.specs.Base.{those, any, gather}
 use Rattle.rules.specs.Condition.{Atom, Condition, alternative_true, identical}
 use Rattle.rules.specs.Tag.{tag_holds}
 use Rattle.rules.specs.Rank.{rank, before}

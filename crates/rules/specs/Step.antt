@@ -1,7 +1,7 @@
 -- "Standings and events": the five events, one at a time, with refusals 5 to 7.
-use Rattle.std.specs.Prelude.{Bool, List, ℕ, leb, ℤ}
+use Rattle.std.specs.Prelude.{Bool, List, ℕ, leb, ℤ, if◌then◌else◌}
 use Rattle.std.proofs.Math.Option.{Option, none, some}
-use Rattle.rules.specs.Base.{if◌then◌else◌, any}
+use Rattle.rules.specs.Base.{any}
 use Rattle.rules.specs.Limits.{tickets}
 use Rattle.rules.specs.Condition.{Given, Condition, closure, condition_true}
 use Rattle.rules.specs.Room.{Room, Standing, outside, door, inside, waiting, called, standing, now, is_inside, is_outside, stand, store, give_ticket}

@@ -1,7 +1,6 @@
 -- "A writer for event records" (document 02, §1): the other half of `Record.antt`, field by field in the same order. A field out of its range is refused as
 -- the reader refuses it, and the first such field decides.
-use Rattle.std.specs.Prelude.{List, [], ◌∷◌, ◌++◌, Bool, ◌&&◌, ℕ, zero, suc, ◌+◌, ◌*◌, ◌/◌, ◌%◌, leb, ltb, ℤ, pos, negsuc, nat_abs, length}
-use Rattle.rules.specs.Base.{if◌then◌else◌}
+use Rattle.std.specs.Prelude.{List, [], ◌∷◌, ◌++◌, Bool, ◌&&◌, ℕ, zero, suc, ◌+◌, ◌*◌, ◌/◌, ◌%◌, leb, ltb, ℤ, pos, negsuc, nat_abs, length, if◌then◌else◌}
 use Rattle.rules.specs.Limits.{jobs, variables, measures_most, value_most, coefficient_most, parts_most, kind_most, operator_most}
 use Rattle.rules.specs.Condition.{Given}
 use Rattle.rules.specs.Step.{Event, arrive, admit, assign, wait, leave}

@@ -1,11 +1,11 @@
 -- What the walk over the leads' nodes finds and counts is what the rules' search does: `law-found` and `law-count`, node by node.
-use Rattle.std.specs.Prelude.{◌≡◌, Bool, ℤ}
+use Rattle.std.specs.Prelude.{◌≡◌, Bool, ℤ, if◌then◌else◌}
 use Rattle.std.proofs.Math.Path.{refl, sym}
 use Rattle.std.proofs.Common.{ap, ◌∙◌}
 use mathlib.Core.List.{List, [], ◌∷◌, map}
 use Rattle.std.proofs.Math.Option.{Option, none, some}
 use Prim.Native.Nat.{ℕ, suc, ◌/◌}
-use Rattle.rules.specs.Base.{if◌then◌else◌, first}
+use Rattle.rules.specs.Base.{first}
 use Rattle.rules.specs.Search.{Waiter, Pair, found, evaluated}
 use Rattle.rules.specs.Laws.In.{In, by_bool}
 use Rattle.rules.specs.Laws.InRankOrder.{up_to}

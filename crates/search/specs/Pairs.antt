@@ -1,12 +1,12 @@
 -- A node is a pair of the rules: a job that waits and one of its alternatives. So the nodes of the leads whose tag holds are the pairs that the
 -- rules count, and a list of them in rising order of rank words is a list of pairs in the order of ranks.
-use Rattle.std.specs.Prelude.{◌≡◌, refl, Bool, not, List, [], ◌∷◌, map, ℕ, zero, suc, ◌+◌, ◌*◌, ◌/◌, ◌%◌, ◌<◌, ◌≤◌, ltb, ℤ, get_or}
+use Rattle.std.specs.Prelude.{◌≡◌, refl, Bool, not, List, [], ◌∷◌, map, ℕ, zero, suc, ◌+◌, ◌*◌, ◌/◌, ◌%◌, ◌<◌, ◌≤◌, ltb, ℤ, get_or, if◌then◌else◌}
 use Rattle.std.proofs.Common.{sym, ◌∙◌, subst, inl, inr, arith}
 use Rattle.std.proofs.Math.Path.{ap}
 use Rattle.std.proofs.Math.Bool.{true, false}
 use borrow.Author.Tests.{ltb-true, lt-ltb}
 use Rattle.rules.specs.Laws.Cases.{by_eq}
-use Rattle.rules.specs.Base.{if◌then◌else◌, those, gather}
+use Rattle.rules.specs.Base.{those, gather}
 use Rattle.rules.specs.Tag.{tag_holds}
 use Rattle.rules.specs.Rank.{before, rank}
 use Rattle.rules.specs.Search.{Waiter, Pair, pairs_of, pairs, follows, oldest}

@@ -1,5 +1,5 @@
 -- Lists of nodes in rising order of rank: for one set of nodes there is one such list, since each list's head is the node that ranks first.
-use Rattle.std.specs.Prelude.{◌≡◌, ◌⊎◌, Bool}
+use Rattle.std.specs.Prelude.{◌≡◌, ◌⊎◌, Bool, if◌then◌else◌}
 use Rattle.std.proofs.Math.Path.{refl, ap}
 use Rattle.std.proofs.Common.{sym, ◌∙◌, arith}
 use Rattle.std.proofs.Math.Logic.{inl, inr}
@@ -9,7 +9,7 @@ use Prim.Native.Nat.{ℕ, zero, suc, ◌<◌}
 use Rattle.std.proofs.Math.Dec.{ltb}
 use borrow.Author.Tests.{ltb-true, ltb-false}
 use Rattle.rules.specs.Laws.Cases.{by_eq}
-use Rattle.rules.specs.Base.{if◌then◌else◌, those}
+use Rattle.rules.specs.Base.{those}
 use Rattle.rules.specs.Laws.In.{In, by_bool, in-those}
 use Rattle.nodes.specs.Sorted.{among, put_among}
 

@@ -1,12 +1,12 @@
 -- What a walk over nodes finds, and how many it evaluated: the first that is true, and all up to it. What is passed was false, so the whole is what
 -- is left of it, with those passed counted.
-use Rattle.std.specs.Prelude.{◌≡◌, Bool, true, false, List, ℤ, get_or, length, drop}
+use Rattle.std.specs.Prelude.{◌≡◌, Bool, true, false, List, ℤ, get_or, length, drop, if◌then◌else◌}
 use Rattle.std.proofs.Math.Path.{refl, sym, ap}
 use Rattle.std.proofs.Common.{◌∙◌, drop_of_length-le, drop-cons}
 use Rattle.std.proofs.Math.Option.{Option, none, some}
 use Prim.Native.Nat.{ℕ, suc, ◌+◌, ◌%◌, ◌<◌, ◌≤◌}
 use native.Mathlib.Omega.{arith}
-use Rattle.rules.specs.Base.{if◌then◌else◌, first}
+use Rattle.rules.specs.Base.{first}
 use Rattle.rules.specs.Condition.{alternative_true}
 use Rattle.rules.specs.Laws.InRankOrder.{up_to}
 use Rattle.condition.specs.Closed.{alternative_at}

@@ -1,8 +1,7 @@
 -- An event is read in two parts, its head and, of a Wait, its numbers: together they are the rules' event, on every byte string from any
 -- place.
-use Rattle.std.specs.Prelude.{◌≡◌, refl, Bool, true, false, List, [], ◌∷◌, ℕ, ◌≤◌, eqb, ℤ, length, drop}
+use Rattle.std.specs.Prelude.{◌≡◌, refl, Bool, true, false, List, [], ◌∷◌, ℕ, ◌≤◌, eqb, ℤ, length, drop, if◌then◌else◌}
 use Rattle.std.proofs.Common.{sym, ap, ◌∙◌, arith}
-use Rattle.rules.specs.Base.{if◌then◌else◌}
 use Rattle.rules.specs.Limits.{jobs, variables, value_most, kind_most, locals}
 use Rattle.rules.specs.Number.{Read, read, refused, pure, after, times, field, below, signed_field}
 use Rattle.rules.specs.Condition.{Given}

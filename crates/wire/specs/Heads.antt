@@ -1,7 +1,6 @@
 -- The head of an event, as the code reads it, and that with a Wait's numbers it is the rules' event.
-use Rattle.std.specs.Prelude.{◌≡◌, List, [], ◌∷◌, ℕ, ◌≤◌, ◌<◌, eqb, ℤ, length, drop}
+use Rattle.std.specs.Prelude.{◌≡◌, List, [], ◌∷◌, ℕ, ◌≤◌, ◌<◌, eqb, ℤ, length, drop, if◌then◌else◌}
 use Rattle.std.proofs.Common.{sym, ap, ◌∙◌, arith, eq-eqb, ne_eqb, drop_of_length-le, drop-cons}
-use Rattle.rules.specs.Base.{if◌then◌else◌}
 use Rattle.rules.specs.Limits.{jobs, variables, value_most, kind_most}
 use Rattle.rules.specs.Number.{Read, read, refused, field, below, signed_field}
 use Rattle.rules.specs.Laws.Readers.{SoundReader, sound-field, sound-below, sound-signed}

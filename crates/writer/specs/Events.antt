@@ -1,10 +1,9 @@
 -- An event is its head, kind and job, and what its kind adds. A number of measures that no room has is refused before any field.
-use Rattle.std.specs.Prelude.{◌≡◌, refl, Bool, true, false, ◌&&◌, List, [], ℕ, ◌<◌, ◌≤◌, leb, ltb, ℤ, length}
+use Rattle.std.specs.Prelude.{◌≡◌, refl, Bool, true, false, ◌&&◌, List, [], ℕ, ◌<◌, ◌≤◌, leb, ltb, ℤ, length, if◌then◌else◌}
 use Rattle.std.proofs.Common.{sym, ap, ◌∙◌, subst, append-nil, append_assoc, to_z, of_z, leb-true, le-leb}
 use Rattle.std.specs.Int.Signed.{mag}
 use Rattle.std.specs.Int.{w64}
 use Rattle.std.proofs.lemmas.Bool.{lt-leb}
-use Rattle.rules.specs.Base.{if◌then◌else◌}
 use Rattle.rules.specs.Step.{Event, assign}
 use Rattle.rules.specs.Writer.{Written, written, unwritten, ◌then◌, write_field, write_below, event_kind, event_job, write_rest, write_event}
 use Rattle.rules.specs.Laws.In.{both}

@@ -1,7 +1,6 @@
 -- "What it writes, the reader reads back as the same record; what the reader accepts and the writer writes again is the same bytes" (document 02, §1).
-use Rattle.std.specs.Prelude.{◌≡◌, true, ◌&&◌, List, ◌++◌, ℕ, ◌≤◌, leb}
+use Rattle.std.specs.Prelude.{◌≡◌, true, ◌&&◌, List, ◌++◌, ℕ, ◌≤◌, leb, if◌then◌else◌}
 use Rattle.std.proofs.Common.{ap, ◌∙◌, arith, leb-true, le-leb}
-use Rattle.rules.specs.Base.{if◌then◌else◌}
 use Rattle.rules.specs.Limits.{measures_most}
 use Rattle.rules.specs.Number.{read}
 use Rattle.rules.specs.Room.{Room}

@@ -1,8 +1,8 @@
 -- What a step may be, whatever the event: a refusal or one of eight moves, each with what is known when it is made. What holds of
 -- every step is then proved once for each move.
-use Rattle.std.specs.Prelude.{◌≡◌, refl, Bool, true, false, List, [], ◌∷◌, ℕ, zero, suc, leb, ℤ, get_or}
+use Rattle.std.specs.Prelude.{◌≡◌, refl, Bool, true, false, List, [], ◌∷◌, ℕ, zero, suc, leb, ℤ, get_or, if◌then◌else◌}
 use Rattle.std.proofs.Common.{arith, leb-false}
-use Rattle.rules.specs.Base.{if◌then◌else◌, any}
+use Rattle.rules.specs.Base.{any}
 use Rattle.rules.specs.Limits.{tickets}
 use Rattle.rules.specs.Condition.{Given, condition_true, closure}
 use Rattle.rules.specs.Room.{Room, Standing, outside, door, inside, waiting, called, standing, now, is_inside, is_outside}

@@ -1,8 +1,7 @@
 -- An event: what is written reads back as the same event, and what was read is written as it stood; kind by kind.
-use Rattle.std.specs.Prelude.{◌≡◌, Bool, true, false, List, [], ℕ, ◌≤◌, ◌<◌, eqb, ℤ, pos}
+use Rattle.std.specs.Prelude.{◌≡◌, Bool, true, false, List, [], ℕ, ◌≤◌, ◌<◌, eqb, ℤ, pos, if◌then◌else◌}
 use Rattle.std.proofs.Math.Path.{refl, ap}
 use Rattle.std.proofs.Common.{sym, ◌∙◌, subst, arith, eqb-true, eq-eqb}
-use Rattle.rules.specs.Base.{if◌then◌else◌}
 use Rattle.rules.specs.Limits.{jobs, variables, locals, kind_most}
 use Rattle.rules.specs.Number.{Reader, pure, ◌>>=◌, times, field, below}
 use Rattle.rules.specs.Condition.{Given}

@@ -1,8 +1,7 @@
 -- Reader and writer of one form are its two halves: what is written reads back, whatever follows, and what was read is written as it stood. One law for each
 -- way of making the two.
-use Rattle.std.specs.Prelude.{◌≡◌, refl, Bool, true, false, List, [], ◌∷◌, ◌++◌, ℕ, zero, suc, length}
+use Rattle.std.specs.Prelude.{◌≡◌, refl, Bool, true, false, List, [], ◌∷◌, ◌++◌, ℕ, zero, suc, length, if◌then◌else◌}
 use Rattle.std.proofs.Common.{sym, ap, ◌∙◌, subst, append_assoc, arith}
-use Rattle.rules.specs.Base.{if◌then◌else◌}
 use Rattle.rules.specs.Number.{read, Reader, pure, after, ◌>>=◌, times}
 use Rattle.rules.specs.Writer.{Written, written, unwritten, ◌then◌, all-written}
 use Rattle.rules.specs.Laws.Bounds.{Each}

@@ -1,9 +1,9 @@
 -- What is in a list, and what the tests of Base say of it: each by going along the list.
 use mathlib.Core.Path.{◌≡◌, refl, sym, ap, ◌∙◌}
-use Rattle.std.specs.Prelude.{◌⊎◌, Bool, true, false, ◌&&◌, List, [], ◌∷◌, ◌++◌, ℕ}
+use Rattle.std.specs.Prelude.{◌⊎◌, Bool, true, false, ◌&&◌, List, [], ◌∷◌, ◌++◌, ℕ, if◌then◌else◌}
 use Rattle.std.proofs.Common.{inl, inr, arith}
 use Rattle.std.proofs.Math.Option.{none, some}
-use Rattle.rules.specs.Base.{if◌then◌else◌, those, first, any, all, gather}
+use Rattle.rules.specs.Base.{those, first, any, all, gather}
 
 abbrev pub In : {A : Type 0} → A → List A → Type 0
 In a [] = ⊥

@@ -1,8 +1,7 @@
 -- The law of the search. For any list of pairs in rank order that holds exactly the alternatives, of the oldest job of each
 -- distinct condition, whose tag holds: the first true one, and how many there are up to it, are what the search finds and
 -- counts. For a younger job's pair has a twin, of the oldest, before it; and a true alternative's tag holds.
-use Rattle.std.specs.Prelude.{◌≡◌, Bool, true, List, [], ◌∷◌, ℕ, suc}
-use Rattle.rules.specs.Base.{if◌then◌else◌}
+use Rattle.std.specs.Prelude.{◌≡◌, Bool, true, List, [], ◌∷◌, ℕ, suc, if◌then◌else◌}
 use Rattle.rules.specs.Rank.{before}
 use Rattle.rules.specs.Search.{Pair}
 use Rattle.rules.specs.Laws.In.{In}

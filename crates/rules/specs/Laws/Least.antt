@@ -1,8 +1,7 @@
 -- The least pair of a list is in it, is there if any pair is, and no other is before it.
-use Rattle.std.specs.Prelude.{◌≡◌, refl, Bool, true, false, List, [], ◌∷◌}
+use Rattle.std.specs.Prelude.{◌≡◌, refl, Bool, true, false, List, [], ◌∷◌, if◌then◌else◌}
 use Rattle.std.proofs.Common.{sym, ap, ◌∙◌, inl, inr}
 use Rattle.std.proofs.Math.Option.{Option, none, some}
-use Rattle.rules.specs.Base.{if◌then◌else◌}
 use Rattle.rules.specs.Rank.{before}
 use Rattle.rules.specs.Search.{Pair, least, lesser}
 use Rattle.rules.specs.Laws.In.{In, by_bool, true-not-false, none-some, some_same}

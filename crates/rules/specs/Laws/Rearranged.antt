@@ -1,8 +1,8 @@
 -- A list rearranged has the same members and as many that pass a test; and two lists without doubles that have the same
 -- members are rearranged, by bringing each member to the front in turn.
-use Rattle.std.specs.Prelude.{◌≡◌, refl, Bool, true, false, List, [], ◌∷◌, suc, length}
+use Rattle.std.specs.Prelude.{◌≡◌, refl, Bool, true, false, List, [], ◌∷◌, suc, length, if◌then◌else◌}
 use Rattle.std.proofs.Common.{sym, ◌∙◌, subst, ap, inl, inr}
-use Rattle.rules.specs.Base.{if◌then◌else◌, those}
+use Rattle.rules.specs.Base.{those}
 use Rattle.rules.specs.Laws.In.{In}
 
 pub data Rearranged {A : Type 0} : List A → List A → Type 0 where

@@ -1,6 +1,6 @@
 -- What every record that is read, and every closed condition, keeps to: document 01's ranges. A key is a sum of four products and
 -- a constant, so it stays within its own range.
-use Rattle.std.specs.Prelude.{◌≡◌, refl, List, [], ◌∷◌, map, ℕ, ◌≤◌, ◌<◌, ℤ, length, eqb, Bool, true, false}
+use Rattle.std.specs.Prelude.{◌≡◌, refl, List, [], ◌∷◌, map, ℕ, ◌≤◌, ◌<◌, ℤ, length, eqb, Bool, true, false, if◌then◌else◌}
 use Rattle.std.proofs.Common.{arith}
 use Rattle.std.proofs.lemmas.List.{length-map}
 use Rattle.rules.specs.Limits.{jobs, variables, measures_most, value_most, coefficient_most, locals, parts_most, kind_most, operator_most, measure_most, key_most}
@@ -9,7 +9,6 @@ use Rattle.rules.specs.Condition.{Given, Atom, Condition, close, closure}
 use Rattle.rules.specs.Room.{Room, opened, measured}
 use Rattle.rules.specs.Step.{Event, arrive, admit, assign, wait, leave}
 use Rattle.rules.specs.Record.{value, coefficient, counted, opening, atom, condition, of_kind, event}
-use Rattle.rules.specs.Base.{if◌then◌else◌}
 use Rattle.rules.specs.Laws.Bounds.{Within, Each, in-add, within_more, products-within}
 use Rattle.rules.specs.Laws.Readers.{SoundReader, sound-pure, sound-less, sound-then, sound-times, sound-field, sound-below, sound-signed}
 
