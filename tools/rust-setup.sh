@@ -1,6 +1,6 @@
 # Sourced by the other scripts, in the repository's root. At once: a Rust compiler and a linker, from Debian's packages where the machine has
 # none. When called:
-#   archive NAME   sees that target/staticlib/libNAME.a is of today's crates
+#   archive NAME   sees that target/staticlib/libNAME.a is of today's crates: the exports of crates/NAME_c
 #   x86_rust       from then on `cargo .. --target "$x86"` links such archives and runs what it made. Rattle compiles for x86-64 alone, so
 #                  on an Arm machine it runs under the kit's emulator
 x86=x86_64-unknown-linux-gnu
@@ -18,15 +18,16 @@ need() {
     apt-get -qq update && apt-get -qq -y --no-install-recommends install "$@" >/dev/null || fail "no $command, and Debian gave none"
 }
 
-# `rt lib` makes it in the crate's out/; what the compilers link is a copy, made anew only when something changed since
+# `rt lib` makes it in the out/ of the crate of its exports; what the compilers link is a copy under the library's name, made anew only when
+# something changed since
 archive() {
     local made=target/staticlib/lib$1.a said
     if [ -f "$made" ] && [ -z "$(find crates crates.txt "$(readlink -f "$(command -v rt)")" -path 'crates/*/out' -prune -o -newer "$made" -print -quit)" ]; then
         return
     fi
-    said=$(cd "crates/$1" && rt lib 2>&1) || fail "$said"
+    said=$(cd "crates/${1}_c" && rt lib 2>&1) || fail "$said"
     mkdir -p target/staticlib
-    cp "crates/$1/out/lib$1.a" "$made.new"
+    cp "crates/${1}_c/out/lib${1}_c.a" "$made.new"
     mv -f "$made.new" "$made"
 }
 

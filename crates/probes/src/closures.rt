@@ -6,8 +6,7 @@ ghost use Rattle.condition.specs.Closing.{closed_slots, given_slots, put_closed}
 
 use closing::close;
 
-#[unsafe(no_mangle)]
-pub extern "C" fn probe_close(
+pub fn probe_close(
     alternatives: &mut [u8; 32],
     atoms: &mut [u8; 128],
     measure: &mut [u8; 512],

@@ -11,23 +11,20 @@ use condition::measure::measure_of;
 use condition::truth::{alternative_true, condition_true};
 use identity::same_condition;
 
-#[unsafe(no_mangle)]
-pub extern "C" fn probe_compare(operator: u8, value: i64, key: i64) -> bool
+pub fn probe_compare(operator: u8, value: i64, key: i64) -> bool
     ensures { result ≡ compares operator value key }
 {
     compare(operator, value, key)
 }
 
-#[unsafe(no_mangle)]
-pub extern "C" fn probe_measure(coefficients: &[i64; 128], values: &[i64; 8], measure: usize) -> i64
+pub fn probe_measure(coefficients: &[i64; 128], values: &[i64; 8], measure: usize) -> i64
     requires { (AllIn coefficient_most coefficients.now) × (AllIn value_most values.now) }
     ensures { result ≡ get_or (now_at coefficients.now values.now) measure (pos 0) }
 {
     measure_of(coefficients, values, measure)
 }
 
-#[unsafe(no_mangle)]
-pub extern "C" fn probe_alternative_true(
+pub fn probe_alternative_true(
     coefficients: &[i64; 128],
     values: &[i64; 8],
     atoms: &[u8; 128],
@@ -42,8 +39,7 @@ pub extern "C" fn probe_alternative_true(
     alternative_true(coefficients, values, atoms, measure, operator, key, node)
 }
 
-#[unsafe(no_mangle)]
-pub extern "C" fn probe_condition_true(
+pub fn probe_condition_true(
     coefficients: &[i64; 128],
     values: &[i64; 8],
     alternatives: &[u8; 32],
@@ -68,8 +64,7 @@ pub extern "C" fn probe_condition_true(
     )
 }
 
-#[unsafe(no_mangle)]
-pub extern "C" fn probe_same_condition(
+pub fn probe_same_condition(
     alternatives: &[u8; 32],
     atoms: &[u8; 128],
     measure: &[u8; 512],

@@ -85,16 +85,14 @@ pub fn plain_head_of(head: Head) -> HeadAnswer
     }
 }
 
-#[unsafe(no_mangle)]
-pub extern "C" fn probe_head(bytes: &[u8], at: usize) -> HeadAnswer
+pub fn probe_head(bytes: &[u8], at: usize) -> HeadAnswer
     ensures { result ≡ plain_head (head_at bytes.now (drop at bytes.now)) }
 {
     let head = read_head(bytes, at);
     plain_head_of(head)
 }
 
-#[unsafe(no_mangle)]
-pub extern "C" fn probe_wait(
+pub fn probe_wait(
     locals: &mut [i64; 4],
     counts: &mut [u8; 4],
     measure: &mut [u8; 16],

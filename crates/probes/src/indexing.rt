@@ -46,8 +46,7 @@ pub fn plain_search_of(answer: Answer) -> Searched
     }
 }
 
-#[unsafe(no_mangle)]
-pub extern "C" fn probe_words(
+pub fn probe_words(
     high: &mut [u64; 128],
     low: &mut [u64; 128],
     atoms: &[u8; 128],
@@ -65,8 +64,7 @@ pub extern "C" fn probe_words(
     write_words(high, low, atoms, measure, operator, key, ticket, job);
 }
 
-#[unsafe(no_mangle)]
-pub extern "C" fn probe_join(
+pub fn probe_join(
     places: &mut [u8],
     lengths: &mut [u8],
     entry: &mut [u8; 32],
@@ -103,8 +101,7 @@ pub extern "C" fn probe_join(
     );
 }
 
-#[unsafe(no_mangle)]
-pub extern "C" fn probe_part(
+pub fn probe_part(
     places: &mut [u8],
     lengths: &mut [u8],
     entry: &mut [u8; 32],
@@ -139,8 +136,7 @@ pub extern "C" fn probe_part(
     );
 }
 
-#[unsafe(no_mangle)]
-pub extern "C" fn probe_search(
+pub fn probe_search(
     places: &[u8],
     lengths: &[u8],
     high: &[u64; 128],

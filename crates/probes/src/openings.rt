@@ -7,8 +7,7 @@ ghost use Rattle.probes.specs.Answers.{plain_answer};
 use crate::answers::{Answer, plain_of};
 use wire::opening::read_opening;
 
-#[unsafe(no_mangle)]
-pub extern "C" fn probe_opening(
+pub fn probe_opening(
     bytes: &[u8],
     at: usize,
     coefficients: &mut [i64; 128],

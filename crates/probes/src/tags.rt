@@ -17,8 +17,7 @@ pub fn plain_tag_of(tag: Tag) -> usize
     }
 }
 
-#[unsafe(no_mangle)]
-pub extern "C" fn probe_tag(atoms: &[u8; 128], operator: &[u8; 512], node: usize) -> usize
+pub fn probe_tag(atoms: &[u8; 128], operator: &[u8; 512], node: usize) -> usize
     requires { node < 128 }
     ensures { result ≡ plain_tag (tag_at atoms.now operator.now node) }
 {
@@ -26,8 +25,7 @@ pub extern "C" fn probe_tag(atoms: &[u8; 128], operator: &[u8; 512], node: usize
     plain_tag_of(tag)
 }
 
-#[unsafe(no_mangle)]
-pub extern "C" fn probe_tag_holds(
+pub fn probe_tag_holds(
     coefficients: &[i64; 128],
     values: &[i64; 8],
     atoms: &[u8; 128],
