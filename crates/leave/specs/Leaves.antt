@@ -1,7 +1,7 @@
 -- Leave: inside to outside, then a search.
 use Rattle.std.specs.Prelude.{◌≡◌, refl, List, ℕ, ◌<◌, get_or, set}
 use Rattle.std.proofs.Common.{sym, ap, ◌∙◌, subst, arith, eq-eqb, ne_eqb}
-use Rattle.rules.specs.Room.{standing, stand, outside}
+use Rattle.rules.specs.Room.{stand, outside}
 use Rattle.rules.specs.Step.{leave}
 use Rattle.condition.specs.Measures.{now_at}
 use Rattle.search.specs.declared.Answer.{Answer}

@@ -8,7 +8,7 @@ use Rattle.std.proofs.lemmas.List.Edits.{sets}
 use Rattle.rules.specs.Laws.Cases.{by_eq}
 use Rattle.rules.specs.Limits.{tickets}
 use Rattle.rules.specs.Condition.{condition_true}
-use Rattle.rules.specs.Room.{Room, standing, stand, waiting, now, give_ticket}
+use Rattle.rules.specs.Room.{Room, stand, waiting, now, give_ticket}
 use Rattle.rules.specs.Search.{Pair, found}
 use Rattle.rules.specs.Step.{call}
 use Rattle.condition.specs.Measures.{now_at}
