@@ -1,0 +1,5 @@
+-- The number is the measure: a tenth is less.
+use Rattle.listing.proofs.put.+put_decimal.Given as goal
+
+abbrev pub decreases-put_decimal : goal.decreases-put_decimal
+decreases-put_decimal l = l.n
