@@ -75,36 +75,54 @@ take-calls-truly : (r : rules.Room) (bytes : List ℕ) (j : ℕ) → called_in (
 take-calls-truly r [] j d = absurd (none-some d)
 take-calls-truly r (b ∷ bytes) j d = taken-calls-truly r (b ∷ bytes) (event (length r.measures) (b ∷ bytes)) j d
 
+-- what an event's answer says of the room after it, and of the tally
+abbrev RoomsAfter : Type 0
+RoomsAfter = (room room' : Room) (tally tally' : Tally) (bytes : List ℕ) (r : Report) → EventTaken room room' tally tally' bytes r → meaning room' ≡ (step_of room bytes).result.room
+
+abbrev TalliesAfter : Type 0
+TalliesAfter = (room room' : Room) (tally tally' : Tally) (bytes : List ℕ) (r : Report) → EventTaken room room' tally tally' bytes r → tally_of tally' ≡ note (step_of room bytes).result.report (tally_of tally)
+
+-- Whatever says it so of each event says it of a run. The theorems below hand it over, each for itself, so each falls by itself where an event's
+-- answer is edited.
+run-after-by : RoomsAfter → {room room' : Room} {tally tally' : Tally} {events : List (List ℕ)} → Run room tally events room' tally' → room_after (meaning room) events ≡ meaning room'
+run-after-by after none-given = refl
+run-after-by after (given {more = more} t u) = ap (λ r. room_after r more) (sym (after _ _ _ _ _ _ t)) ∙ run-after-by after u
+
 run-after : {room room' : Room} {tally tally' : Tally} {events : List (List ℕ)} → Run room tally events room' tally' → room_after (meaning room) events ≡ meaning room'
-run-after none-given = refl
-run-after (given {more = more} t u) = ap (λ r. room_after r more) (sym t.room_after) ∙ run-after u
+run-after = run-after-by (λ room room' tally tally' bytes r t. t.room_after)
 
 run-kept : {room room' : Room} {tally tally' : Tally} {events : List (List ℕ)} → Kept (arrays_of room) → Run room tally events room' tally' → Kept (arrays_of room')
 run-kept k none-given = k
 run-kept k (given t u) = run-kept t.kept u
 
+run-tally-by : RoomsAfter → TalliesAfter → {room room' : Room} {tally tally' : Tally} {events : List (List ℕ)} → Run room tally events room' tally' → tally_of tally' ≡ tallied (meaning room) events (tally_of tally)
+run-tally-by after counted none-given = refl
+run-tally-by after counted (given {more = more} t u) = run-tally-by after counted u ∙ (λ i. tallied (after _ _ _ _ _ _ t i) more (counted _ _ _ _ _ _ t i))
+
 run-tally : {room room' : Room} {tally tally' : Tally} {events : List (List ℕ)} → Run room tally events room' tally' → tally_of tally' ≡ tallied (meaning room) events (tally_of tally)
-run-tally none-given = refl
-run-tally (given {more = more} t u) = run-tally u ∙ (λ i. tallied (t.room_after i) more (t.tally-after i))
+run-tally = run-tally-by (λ room room' tally tally' bytes r t. t.room_after) (λ room room' tally tally' bytes r t. t.tally-after)
 
 module _ {opened : List ℕ} {first room : Room} {first-tally tally : Tally} {events : List (List ℕ)} (o : Started opened first) (run : Run first first-tally events room tally) where
   -- the rules' room came from an accepted opening and events, and the arrays keep what they keep: all that `harbour_event` asks
-  pub code-reached : Reached (meaning room)
-  code-reached = record {
+  reached-by : RoomsAfter → Reached (meaning room)
+  reached-by after = record {
     opening-bytes = opened;
     start = o.start;
     rest = o.rest;
     opens = o.accepted;
     events = events;
-    came = ap (λ r. room_after r events) (sym (code-opens o.said o.start o.rest o.accepted).1) ∙ run-after run;
+    came = ap (λ r. room_after r events) (sym (code-opens o.said o.start o.rest o.accepted).1) ∙ run-after-by after run;
   }
+
+  pub code-reached : Reached (meaning room)
+  code-reached = reached-by (λ room room' tally tally' bytes r t. t.room_after)
 
   pub code-kept : Kept (arrays_of room)
   code-kept = run-kept (code-opens o.said o.start o.rest o.accepted).2 run
 
   -- the tally has counted every event of the run, as the rules count
   pub code-tally : tally_of tally ≡ tallied o.start events (tally_of first-tally)
-  code-tally = run-tally run ∙ ap (λ r. tallied r events (tally_of first-tally)) (code-opens o.said o.start o.rest o.accepted).1
+  code-tally = run-tally-by (λ room room' tally tally' bytes r t. t.room_after) (λ room room' tally tally' bytes r t. t.tally-after) run ∙ ap (λ r. tallied r events (tally_of first-tally)) (code-opens o.said o.start o.rest o.accepted).1
 
   -- ---- whatever bytes come next
   module _ {room' : Room} {tally' : Tally} {bytes : List ℕ} {r : Report} (t : EventTaken room room' tally tally' bytes r) where
@@ -154,7 +172,7 @@ module _ {opened : List ℕ} {first room : Room} {first-tally tally : Tally} {ev
 
   -- ---- demand 3: what holds between events
   pub code-relay : Relay (meaning room)
-  code-relay = reached-relay code-reached
+  code-relay = reached-relay (reached-by (λ room room' tally tally' bytes r t. t.room_after))
 
   -- each distinct waiting condition once, with exactly its jobs, and its alternatives once under their tag
   pub code-index : Index (closed_slots room.alternatives room.atoms room.measure room.operator room.key) room.ticket room.entry room.high room.low room.places room.lengths

@@ -1,5 +1,5 @@
 // The host's library: one Room and one Tally, lent to each call. A host opens a room from bytes and then gives it events, one string of bytes each;
-// every answer is plain numbers. The work is done by covered functions over the room's arrays (`arrays`); those here are thin.
+// every answer is plain numbers. The work is done by functions over the room's arrays (`arrays`); those here are thin.
 #![tactic(auto)]
 
 ghost use Rattle.std.specs.Prelude.{◌≡◌};
@@ -41,7 +41,7 @@ pub struct Room {
     pub next_ticket: u32,
 }
 
-// Thin: a walk by hand proves it.
+// The tally after a report, in place.
 pub fn note(tally: &mut Tally, report: Report)
     ensures { tally.new ≡ noted_tally tally.old report }
 {

@@ -11,7 +11,7 @@ use tally::{Tally, added};
 
 // Outcomes: 0 done, 1 in, 2 waits, 3 on, 4 back, 5 refused, 6 none left.
 #[repr(C)]
-#[derive(Drop)]
+#[derive(Clone, Copy)]
 pub struct Report {
     pub outcome: u8,
     // the called job, or 32 for nobody
