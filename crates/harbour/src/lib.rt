@@ -49,8 +49,7 @@ pub fn note(tally: &mut Tally, report: Report)
 }
 
 // An opening. A refused one makes no room: every number becomes 0, and every job stands outside.
-#[unsafe(no_mangle)]
-pub extern "C" fn harbour_open(room: &mut Room, bytes: &[u8]) -> Opened
+pub fn harbour_open(room: &mut Room, bytes: &[u8]) -> Opened
     ensures { OpensRoom bytes.now result (arrays_of room.new) }
 {
     let opened = take_opening(
@@ -76,8 +75,7 @@ pub extern "C" fn harbour_open(room: &mut Room, bytes: &[u8]) -> Opened
 }
 
 // One event. A refused one, and none left, leave room and tally as they were.
-#[unsafe(no_mangle)]
-pub extern "C" fn harbour_event(tally: &mut Tally, room: &mut Room, bytes: &[u8]) -> Report
+pub fn harbour_event(tally: &mut Tally, room: &mut Room, bytes: &[u8]) -> Report
     requires { Kept (arrays_of room.old) }
     ensures { EventTaken room.old room.new tally.old tally.new bytes.now result }
 {

@@ -6,8 +6,7 @@ ghost use Rattle.listing.specs.Output.{filled};
 use listing::listing;
 
 // How much of the buffer is filled. No listing is longer than 655,360 bytes; one longer than the buffer is cut at its end.
-#[unsafe(no_mangle)]
-pub extern "C" fn harbour_listing(out: &mut [u8], input: &[u8]) -> usize
+pub fn harbour_listing(out: &mut [u8], input: &[u8]) -> usize
     ensures { (out.new ≡ filled out.old (listing_of input.now)) × (result ≡ min (length out.old) (length (listing_of input.now))) }
 {
     listing(out, input)
