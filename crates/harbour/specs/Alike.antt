@@ -2,7 +2,6 @@
 -- and there is one index of those that wait, but for that. So it is all that an event's contract leaves open.
 use Rattle.std.specs.Prelude.{◌≡◌, List, ℕ, ◌<◌, ◌≤◌, eqb, ltb, get_or}
 use Rattle.std.proofs.Common.{sym, ap, ◌∙◌, subst, ext_get_or}
-use Rattle.rules.specs.Room as rules
 use Rattle.homes.specs.Regions.{region}
 use Rattle.homes.specs.Moves.{times_in_home}
 use Rattle.index.specs.Index.{Index}
