@@ -1,5 +1,5 @@
 -- What the walk over the leads' nodes finds and counts is what the rules' search does: `law-found` and `law-count`, node by node.
-use Rattle.std.specs.Prelude.{◌≡◌, Bool, ℤ, if◌then◌else◌}
+use Rattle.std.specs.Prelude.{◌≡◌, Bool, ℤ}
 use Rattle.std.proofs.Math.Path.{refl, sym}
 use Rattle.std.proofs.Common.{ap, ◌∙◌}
 use mathlib.Core.List.{List, [], ◌∷◌, map}

@@ -1,6 +1,6 @@
 -- Lists of nodes by the bounds of their words. A stretch has, in rising order of rank, all nodes of a set whose words are from one bound to another;
 -- stretches that meet make a longer one, and the one that has all words is the whole set in order.
-use Rattle.std.specs.Prelude.{◌≡◌, ◌⊎◌, List, [], ◌++◌, ℕ, zero, suc, ◌+◌, ◌*◌, ◌<◌, ◌≤◌}
+use Rattle.std.specs.Prelude.{◌≡◌, List, [], ◌++◌, ℕ, zero, suc, ◌+◌, ◌*◌, ◌<◌, ◌≤◌}
 use Rattle.std.proofs.Common.{inl, inr, arith}
 use Rattle.rules.specs.Laws.Cases.{by_lt}
 use Rattle.rules.specs.Laws.In.{In, in_left, in_right, in-append}

@@ -1,5 +1,5 @@
 -- The nodes of a heap whose tags hold, in the order of ranks; and what a heap has to be for a search to walk it.
-use Rattle.std.specs.Prelude.{◌≡◌, refl, Bool, List, [], ◌∷◌, ℕ, zero, suc, ◌*◌, ◌-◌, ◌<◌, ◌≤◌, ltb, get_or, length, take, drop}
+use Rattle.std.specs.Prelude.{◌≡◌, refl, Bool, List, [], ◌∷◌, ℕ, zero, suc, ◌*◌, ◌<◌, ◌≤◌, ltb, get_or, length, take, drop}
 use Rattle.std.proofs.Common.{ap, ◌∙◌, arith, length-drop, length-take-le}
 use Rattle.rules.specs.Laws.In.{by_bool}
 use Rattle.nodes.specs.Order.{Ordered}

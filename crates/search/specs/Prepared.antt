@@ -1,5 +1,5 @@
 -- An index that keeps its invariant is fit to be searched: no home has more nodes than places, rows are in the order of words, heaps in theirs.
-use Rattle.std.specs.Prelude.{◌≡◌, refl, Bool, List, ◌++◌, ℕ, ◌+◌, ◌*◌, ◌-◌, ◌%◌, ◌^◌, ◌<◌, ◌≤◌, ℤ, get_or, length, take, drop}
+use Rattle.std.specs.Prelude.{◌≡◌, refl, Bool, List, ◌++◌, ℕ, ◌*◌, ◌-◌, ◌%◌, ◌^◌, ◌<◌, ◌≤◌, ℤ, get_or, length, take, drop}
 use Rattle.std.proofs.Common.{ap, ◌∙◌, arith, length-append, length-drop, length-take-le}
 use Rattle.std.proofs.Math.Nat.{sub-zero}
 use Rattle.condition.specs.From.{from-many}

@@ -1,6 +1,6 @@
 -- The three structures of the index are stretches of one list: the leads' nodes whose tag holds, in rising order of rank. An equality tag of a measure
 -- holds if its word is that of the measure's value; in a heap the tags that hold come first; those without a tag all hold.
-use Rattle.std.specs.Prelude.{◌≡◌, true, ◌&&◌, List, ℕ, ◌+◌, ◌*◌, ◌-◌, ◌^◌, ◌<◌, ◌≤◌, get_or}
+use Rattle.std.specs.Prelude.{◌≡◌, true, ◌&&◌, List, ℕ, ◌+◌, ◌*◌, ◌^◌, ◌<◌, ◌≤◌, get_or}
 use Rattle.std.proofs.Common.{sym, ◌∙◌, arith}
 use Rattle.std.proofs.Math.Nat.{sub-zero}
 use Rattle.rules.specs.Laws.Cases.{by_lt}
