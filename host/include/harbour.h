@@ -3,8 +3,8 @@
  * What a room does is document 01, "Description of the wait room and its rules"; opening, event, job, measure, alternative, atom, tag, ticket and
  * call are its words. The code is written in Rattle. What is said below of answers, rooms and tallies is proved of it.
  *
- * Link with libharbour.a (`rt lib` in crates/harbour, for x86-64). The library keeps nothing between calls but what stands in the structs that it is
- * lent, and writes nothing else. It calls memcpy and memset, and allocates nothing.
+ * Link with libharbour.a (for x86-64: tools/test-host leaves it in target/staticlib; `rt lib` in crates/harbour_c makes it). The library keeps nothing
+ * between calls but what stands in the structs that it is lent, and writes nothing else. It calls memcpy and memset, and allocates nothing.
  *
  * Threads: calls on one room must not overlap, and nobody may read a room or a tally during a call that is lent it. Calls on different rooms with
  * different tallies may. Real threads, locks and sleeping belong to the host; host/examples/buffer shows one.

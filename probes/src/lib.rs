@@ -1,4 +1,4 @@
-//! The proved readers, conditions and index, called from Rust: what crates/probes exports, each
+//! The proved readers, conditions and index, called from Rust: what crates/probes_c exports, each
 //! function declared once and wrapped in a safe one. `tools/test-probes` builds the archive and runs
 //! the tests.
 
