@@ -1,11 +1,8 @@
 -- `open` meets its contract: the opening is read as `read_opening` says, and each other array becomes 0 in as many slots as it has.
-use Rattle.std.proofs.Common.{◌≡◌, List, ℕ, pos, replicate, ap, ◌∙◌, arith}
+use Rattle.std.proofs.Common.{pos, arith}
+use Rattle.wire.proofs.Sized.{sized}
 use Rattle.opening.specs.Opens.{opens}
 use Rattle.opening.proofs.open.Goals as goal
-
--- an array of n slots that was cleared
-sized : {A : Type 0} (z : A) (n : ℕ) {out : List A} {m : ℕ} → out ≡ replicate m z → m ≡ n → out ≡ replicate n z
-sized z n e l = e ∙ ap (λ k. replicate k z) l
 
 pub returns : goal.returns
 returns c =

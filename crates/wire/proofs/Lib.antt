@@ -1,0 +1,2 @@
+-- What the proofs of the readers and of an opening share.
+pub mod Sized
