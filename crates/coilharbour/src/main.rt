@@ -27,7 +27,8 @@ fn read_full<R: Read>(reader: &mut R, buffer: &mut [u8]) -> io::Result<usize>
     Ok(filled)
 }
 
-// Writes the listing of all that the reader has left. One byte more is read than a stream may have, so that a longer input is seen to be too long.
+// Writes the listing of all that the reader has left. One byte more is read than a stream may have, so that a longer input is seen to be too
+// long.
 fn list_stream<R: Read, W: Write>(reader: &mut R, writer: &mut W) -> io::Result<()>
     ensures { OnOk result (IfSome (R.remaining reader.old) (λ bytes. Appends (W.contents writer.old) (W.contents writer.new) (listing_of bytes))) }
 {

@@ -1,4 +1,5 @@
-// What a host in C, or in any language that calls C, links: each export calls the function of its name in `harbour`, and states its clauses.
+// What a host links, in C or in any language that calls C: each export calls the function of its name in `harbour`, and states its
+// clauses.
 #![tactic(auto)]
 
 ghost use Rattle.room.specs.Kept.{Kept};

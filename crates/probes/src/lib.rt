@@ -1,5 +1,5 @@
-// What the Rust tests call, by the C functions of `probes_c`: each reader, its answer as plain numbers, each function of conditions, and the
-// index. A file a subject; each function is thin over the one that it is named after.
+// What the Rust tests call, by the C functions of `probes_c`: each reader, its answer as plain numbers, each function of conditions, and
+// the index. A file a subject; each function is thin over the one that it is named after.
 #![tactic(auto)]
 
 pub mod answers;
