@@ -1,5 +1,5 @@
 -- Admit: door or called, and nobody inside. A called job's condition is evaluated: true, it goes in; false, a search is made and it is sent back.
-use Rattle.std.specs.Prelude.{◌≡◌, refl, ◌⊎◌, Bool, true, false, List, ℕ, zero, suc, ◌<◌, ◌≤◌, eqb, get_or, set}
+use Rattle.std.specs.Prelude.{◌≡◌, refl, ◌⊎◌, Bool, true, false, List, ℕ, zero, suc, ◌<◌, ◌≤◌, eqb, get_or, set, Err}
 use Rattle.std.proofs.Common.{sym, ap, ◌∙◌, subst, inl, inr, arith, eqb-true, eq-eqb, ne_eqb, ltb-false, lt-ltb, length-set, get_or-set_same, get_or-set_other}
 use Rattle.rules.specs.Laws.Cases.{by_eq}
 use Rattle.rules.specs.Condition.{condition_true}
@@ -16,13 +16,14 @@ use Rattle.room.specs.Standings.{standing-is, code-door, code_inside, code-waiti
 use Rattle.room.specs.Calls.{moved, CallsNext}
 use Rattle.room.specs.Tickets.{with_next, sound-next, calls-next}
 use Rattle.room.specs.Stands.{restood, room-stand, sound-stand}
-use Rattle.room.specs.Reports.{meaning, search_report, accepted-not, search-not, Plain}
+use Rattle.room.specs.Reports.{Report, meaning, plain_report, search_report, accepted-not, search-not, Plain}
 use Rattle.room.specs.Steps.{Stepped}
 use Rattle.room.specs.Searches.{true_same, search-room, search-report, search-plain, search-others}
 use Rattle.room.specs.Joins.{MayJoin}
 use Rattle.room.specs.Occupied.{somebody, occupied-is}
-use Rattle.room.specs.declared.report.Report.{Report}
-use Rattle.room.specs.declared.report.Report.TheVariants.{Accepted, Refused}
+use Rattle.fields.specs.declared.refusal.Refusal.{Refusal}
+use Rattle.fields.specs.declared.refusal.Refusal.TheVariants.{WrongStanding, Occupied}
+use Rattle.room.specs.declared.report.Outcome.TheVariants.{In, Back}
 
 module _ (a₀ : Arrays) (k₀ : Sound a₀) (job : ℕ) (small : job < 32) (next : ℕ) where
   abbrev a : Arrays
@@ -48,7 +49,8 @@ module _ (a₀ : Arrays) (k₀ : Sound a₀) (job : ℕ) (small : job < 32) (nex
   )
 
   -- ---- refused
-  by-step : {r : Report} {s : Step} (b : Arrays) → step (room_of a) (admit job) ≡ s → meaning r ≡ s.report → room_of b ≡ s.room → Sound b → ((m : ℕ) → r ≡ Refused m → b ≡ a) → Plain r → Stepped a b (admit job) r
+  by-step : {r : Report} {s : Step} (b : Arrays) → step (room_of a) (admit job) ≡ s → meaning r ≡ s.report → room_of b ≡ s.room → Sound b →
+      ((m : Refusal) → r ≡ Err m → b ≡ a) → Plain r → Stepped a b (admit job) r
   by-step b e p q h o l = record { report = p ∙ ap (λ (s : Step). s.report) (sym e); room = q ∙ ap (λ (s : Step). s.room) (sym e); sound = h; same = o; plain = l }
 
   neither : (n : ℕ) → n ≤ 4 → (n ≡ 1 → ⊥) → (n ≡ 4 → ⊥) → admitted job (standing_of n (condition_in a.slots job) (get_or a.ticket job 0)) (room_of a) ≡ refuse (room_of a) 5
@@ -59,7 +61,7 @@ module _ (a₀ : Arrays) (k₀ : Sound a₀) (job : ℕ) (small : job < 32) (nex
   neither (suc (suc (suc (suc zero)))) h d c = absurd (c refl)
   neither (suc (suc (suc (suc (suc n))))) h d c = absurd (omega arith)
 
-  pub admits-not : (code ≡ 1 → ⊥) → (code ≡ 4 → ⊥) → Stepped a a (admit job) (Refused 5)
+  pub admits-not : (code ≡ 1 → ⊥) → (code ≡ 4 → ⊥) → Stepped a a (admit job) (Err WrongStanding)
   admits-not d c = by-step a (ap (λ s. admitted job s (room_of a)) (standing-is a job small) ∙ neither code (k.codes job) d c) refl refl k (λ m o. refl) tt
 
   -- ---- somebody is inside, or not
@@ -70,24 +72,26 @@ module _ (a₀ : Arrays) (k₀ : Sound a₀) (job : ℕ) (small : job < 32) (nex
     free : b ≡ false → occupied (room_of a) ≡ false
     free t = occupied-is a k ∙ sym is ∙ t
 
-    pub admits-full : (code ≡ 1) ⊎ (code ≡ 4) → b ≡ true → Stepped a a (admit job) (Refused 6)
+    pub admits-full : (code ≡ 1) ⊎ (code ≡ 4) → b ≡ true → Stepped a a (admit job) (Err Occupied)
     admits-full (inl d) t = by-step a (ap (λ s. admitted job s (room_of a)) (is-door d) ∙ rw (full t) refl) refl refl k (λ m o. refl) tt
     admits-full (inr d) t = by-step a (ap (λ s. admitted job s (room_of a)) (is-called d) ∙ rw (full t) refl) refl refl k (λ m o. refl) tt
 
-    pub admits-door : code ≡ 1 → b ≡ false → Stepped a (restood a (set a₀.standing job 2)) (admit job) (Accepted 1 32 0)
+    pub admits-door : code ≡ 1 → b ≡ false → Stepped a (restood a (set a₀.standing job 2)) (admit job) (plain_report In)
     admits-door d t =
         let g = goes-inside (ne_eqb code 3 (λ e. omega (arith, e, d))) in
-        by-step (restood a (set a.standing job 2)) (ap (λ s. admitted job s (room_of a)) (is-door d) ∙ rw (free t) refl) refl g.0 g.1 (λ m o. absurd (accepted-not o)) (omega arith, omega arith)
+        by-step (restood a (set a.standing job 2)) (ap (λ s. admitted job s (room_of a)) (is-door d) ∙ rw (free t) refl)
+        refl g.0 g.1 (λ m o. absurd (accepted-not o)) tt
 
     -- ---- a called job
     module _ (d : code ≡ 4) (t : b ≡ false) {u : Bool} (holds : u ≡ condition_true (now_at a₀.coefficients a₀.values) (condition_in a₀.slots job)) where
       true-is : condition_true (now (room_of a)) (condition_in a.slots job) ≡ u
       true-is = sym (holds ∙ true_same a k (condition_in a.slots job))
 
-      pub admits-called : u ≡ true → Stepped a (restood a (set a₀.standing job 2)) (admit job) (Accepted 1 32 0)
+      pub admits-called : u ≡ true → Stepped a (restood a (set a₀.standing job 2)) (admit job) (plain_report In)
       admits-called v =
           let g = goes-inside (ne_eqb code 3 (λ e. omega (arith, e, d))) in
-          by-step (restood a (set a.standing job 2)) (ap (λ s. admitted job s (room_of a)) (is-called d) ∙ rw (free t, true-is ∙ v) refl) refl g.0 g.1 (λ m o. absurd (accepted-not o)) (omega arith, omega arith)
+          by-step (restood a (set a.standing job 2)) (ap (λ s. admitted job s (room_of a)) (is-called d) ∙ rw (free t, true-is ∙ v) refl)
+          refl g.0 g.1 (λ m o. absurd (accepted-not o)) tt
 
       -- ---- sent back: a search was made, and the job joins the index again
       module _ (v : u ≡ false) (st entry places lengths : List ℕ) (r : Answer) (n₀ : CallsNext a₀ (now_at a₀.coefficients a₀.values) st entry places lengths r) where
@@ -146,11 +150,12 @@ module _ (a₀ : Arrays) (k₀ : Sound a₀) (job : ℕ) (small : job < 32) (nex
                 (λ e. n.sound.words j (sym (get_or-set_other st job j 3 0 e) ∙ h));
           }
 
-          pub sent_back : {w : Report} → w ≡ search_report 4 r → Stepped a (moved a (set st job 3) entry' places' lengths') (admit job) w
+          pub sent_back : {w : Report} → w ≡ search_report Back r → Stepped a (moved a (set st job 3) entry' places' lengths') (admit job) w
           sent_back {w} e =
               by-step (moved a (set st job 3) entry' places' lengths') (ap (λ s. admitted job s (room_of a)) (is-called d) ∙ rw (free t, true-is ∙ v) refl)
-              (ap meaning e ∙ search-report a k st entry places lengths r n 4)
+              (ap meaning e ∙ search-report a k st entry places lengths r n Back)
               (room-stand b₁ job 3 small n.sound.sizes entry' places' lengths'
               ∙ ap (λ s. stand job s (room_of b₁)) (code-waiting (condition_in a.slots job) (get_or a.ticket job 0) 3 refl)
               ∙ ap (stand job (waiting (condition_in a.slots job) (get_or a.ticket job 0))) (search-room a k st entry places lengths r n))
-              back-sound (λ m o. absurd (search-not 4 r (sym e ∙ o))) (subst Plain (sym e) (search-plain a k st entry places lengths r n 4 (omega arith)))
+              back-sound (λ m o. absurd (search-not Back r (sym e ∙ o)))
+              (subst Plain (sym e) (search-plain a k st entry places lengths r n Back))

@@ -10,7 +10,8 @@ use listing::whole_listing;
 use std::io;
 use std::io::{Read, Write};
 
-// Reads until the buffer is full or the input ends, and tells how many bytes stand at the buffer's start then.
+// Reads until the buffer is full or the input ends, and tells how many bytes stand at the buffer's start then. A loop, and no
+// `read_to_end`, which fills a Vec: the program has no heap.
 fn read_full<R: Read>(reader: &mut R, buffer: &mut [u8]) -> io::Result<usize>
     ensures count { ReadsAtMost result buffer.new }
     ensures bytes { IfOk result (λ n. Consumes (R.remaining reader.old) (R.remaining reader.new) (take n buffer.new)) }
@@ -27,10 +28,11 @@ fn read_full<R: Read>(reader: &mut R, buffer: &mut [u8]) -> io::Result<usize>
     Ok(filled)
 }
 
-// Writes the listing of all that the reader has left. One byte more is read than a stream may have, so that a longer input is seen to be too
-// long.
+// Writes the listing of all that the reader has left. One byte more is read than a stream may have, so that a longer input is seen to be
+// too long.
 fn list_stream<R: Read, W: Write>(reader: &mut R, writer: &mut W) -> io::Result<()>
-    ensures { OnOk result (IfSome (R.remaining reader.old) (λ bytes. Appends (W.contents writer.old) (W.contents writer.new) (listing_of bytes))) }
+    ensures { OnOk result (IfSome (R.remaining reader.old)
+        (λ bytes. Appends (W.contents writer.old) (W.contents writer.new) (listing_of bytes))) }
 {
     let mut input = [0u8; 65537];
     let got = read_full(reader, &mut input)?;

@@ -5,7 +5,7 @@ use Rattle.std.proofs.Math.Option.{Option, none, some}
 use Rattle.rules.specs.Condition.{Atom}
 use Rattle.integers.specs.Sums.{sum}
 use Rattle.condition.specs.Closing.{key_at}
-use Rattle.condition.specs.Tags.{first_place, tag_at, tag_means}
+use Rattle.condition.specs.Tags.{first_at, tag_at, tag_means}
 
 -- one node's atoms: measures, operators and keys
 pub record Slots : Type 0 where
@@ -30,5 +30,5 @@ atom measure operator key = record { measure = measure; operator = operator; key
 -- (x < 5 and y = 3) has the tag y = 3; (x = 8 and y = 9) has x = 8; (x ≠ 8) has none; and x − 2y > a − b with a = 11, b = 2 closes to key 9
 pub board-slots : (map tag_of tags ≡ some (atom 1 1 3) ∷ some (atom 0 1 8) ∷ none ∷ [])
     × (key_at (pos 1 ∷ negsuc 0 ∷ pos 0 ∷ pos 0 ∷ []) (pos 11 ∷ pos 2 ∷ pos 0 ∷ pos 0 ∷ []) (pos 0 ∷ []) 0 ≡ pos 9)
-unfolding sum first_place
+unfolding sum first_at
 board-slots = (refl, refl)

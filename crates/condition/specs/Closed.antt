@@ -1,4 +1,4 @@
--- Closed conditions in lent arrays. A job has four nodes, one for each alternative it may have, and a node four slots, one for each atom:
+-- Closed conditions in their slots. A job has four nodes, one for each alternative it may have, and a node four slots, one for each atom:
 -- alternative i of job j is node 4 * j + i, and its atom k stands in slot 4 * (4 * j + i) + k.
 use Rattle.std.specs.Prelude.{List, ℕ, ◌*◌, min, ℤ, pos, get_or}
 use Rattle.rules.specs.Condition.{Atom, Condition}

@@ -1,4 +1,4 @@
--- The value of a measure in lent arrays: the coefficients of measure m stand from slot 8 * m on.
+-- The value of a measure in its slots: the coefficients of measure m stand from slot 8 * m on.
 use Rattle.std.specs.Prelude.{◌≡◌, List, [], ◌∷◌, ℕ, zero, suc, ◌+◌, ◌*◌, ◌<◌, ◌≤◌, ℤ, pos, ◌*ℤ◌, get_or}
 use Rattle.std.proofs.Math.Path.{sym, ap}
 use Rattle.std.proofs.Common.{◌∙◌, add-zero}

@@ -1,4 +1,5 @@
-// An operator between a measure's value and a key: 1 =, 2 ≠, 3 <, 4 ≤, 5 >, 6 ≥, and no other holds.
+// An operator between a measure's value and a key: 1 =, 2 ≠, 3 <, 4 ≤, 5 >, 6 ≥, and no other holds. It stays a number and is no enum: the
+// slots hold any u8 here, and the rules' atoms have the number.
 ghost use Rattle.std.specs.Prelude.{◌≡◌};
 ghost use Rattle.rules.specs.Condition.{compares};
 

@@ -1,2 +1,2 @@
--- The laws that the proofs of the searches over the jobs cite.
+-- The laws that the proof of the search over the jobs cites.
 pub mod Laws

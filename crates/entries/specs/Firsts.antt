@@ -1,5 +1,5 @@
 -- The first of n places where a test holds, or n where it holds nowhere: one number, whatever the search looked at.
-use Rattle.std.specs.Prelude.{◌≡◌, Bool, true, false, ℕ, ◌+◌, ◌<◌, ◌≤◌}
+use Rattle.std.specs.Prelude.{◌≡◌, Option, MatchOption, Bool, true, false, ℕ, ◌+◌, ◌<◌, ◌≤◌}
 use Rattle.std.proofs.Common.{sym, ◌∙◌, arith}
 use Rattle.rules.specs.Laws.In.{true-not-false}
 use Rattle.rules.specs.Laws.Cases.{by_eq, by_lt}
@@ -12,6 +12,10 @@ pub record First (test : ℕ → Bool) (n r : ℕ) : Type 0 where
   pub most : r ≤ n
   pub before : Nowhere test r
   pub here : r < n → test r ≡ true
+
+-- the same, where a search answers with no number if it holds nowhere
+abbrev pub FirstIn : (ℕ → Bool) → ℕ → Option ℕ → Type 0
+FirstIn test n r = MatchOption r (First test n n) (λ k. (k < n) × First test n k)
 
 module _ (test : ℕ → Bool) where
   pub nowhere-none : Nowhere test 0

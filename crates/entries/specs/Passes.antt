@@ -1,35 +1,44 @@
 -- A lead leaves others behind, and the oldest of them leads them: they have its condition, and nobody else has.
-use Rattle.std.specs.Prelude.{◌≡◌, refl, List, ℕ, ◌+◌, ◌-◌, ◌<◌, ◌≤◌, eqb, get_or, set, length}
+use Rattle.std.specs.Prelude.{◌≡◌, refl, Option, Some, None, List, ℕ, ◌+◌, ◌-◌, ◌<◌, ◌≤◌, eqb, get_or, set, length}
 use Rattle.std.proofs.Common.{sym, ap, ◌∙◌, arith, get_or-set_same, get_or-set_other, eq-eqb, ne_eqb}
 use Rattle.rules.specs.Condition.{Condition}
 use Rattle.rules.specs.Laws.Cases.{by_eq}
 use Rattle.entries.specs.Entries.{Waits, is_lead, Entries, Distinct, led-named, waits-below, one-condition, one_entry}
 use Rattle.entries.specs.Renames.{renamed, renamed-same, renamed-other}
 use Rattle.entries.specs.Changes.{Change}
-use Rattle.entries.specs.Oldest.{oldest_of, Oldest, oldest-is}
+use Rattle.entries.specs.Oldest.{oldest_of, Oldest, OldestAt, oldest-is}
 use Rattle.entries.specs.Parts.{parted_lead, PartedFrom, not-job, out-lead}
 use Rattle.entries.specs.declared.Parted.TheVariants.{Next}
 
 -- ---- who is found when the job's own entry is 0
-module _ {of next : ℕ} (entry ticket : List ℕ) (job : ℕ) (e : of ≡ job + 1) (r : next ≡ oldest_of (set entry job 0) ticket of 32) (h : job < length entry) where
-  left : Oldest (set entry job 0) ticket of 32 next
-  left = rw r (oldest-is (set entry job 0) ticket of 32 (omega arith))
+module _ {of : ℕ} {found : Option ℕ} (entry ticket : List ℕ) (job : ℕ) (e : of ≡ job + 1)
+    (r : found ≡ oldest_of (set entry job 0) ticket of 32) (h : job < length entry) where
+  left : Oldest (set entry job 0) ticket of 32 found
+  left = rw r (oldest-is (set entry job 0) ticket of 32)
 
   stands : (j : ℕ) → (j ≡ job → ⊥) → get_or entry j 0 ≡ job + 1 → get_or (set entry job 0) j 0 ≡ of
   stands j n i = get_or-set_other entry job j 0 0 n ∙ i ∙ sym e
 
-  pub next-other : next < 32 → next ≡ job → ⊥
-  next-other p d = absurd (omega (arith, left.here p, get_or-set_same entry job 0 0 h, ap (λ (x : ℕ). get_or (set entry job 0) x 0) d))
+  module _ {next : ℕ} (is : found ≡ Some next) where
+    one : OldestAt (set entry job 0) ticket of 32 next
+    one = rw is at left
 
-  pub next-behind : next < 32 → get_or entry next 0 ≡ job + 1
-  next-behind p = sym (get_or-set_other entry job next 0 0 (next-other p)) ∙ left.here p ∙ e
+    pub next-below : next < 32
+    next-below = one.below
 
-  module _ (short : length entry ≤ 32) (j : ℕ) (n : j ≡ job → ⊥) (i : get_or entry j 0 ≡ job + 1) where
-    pub next-least : get_or ticket next 0 ≤ get_or ticket j 0
-    next-least = (left.least j (waits-below entry 32 j short (omega (arith, i))) (stands j n i)).1
+    pub next-other : next ≡ job → ⊥
+    next-other d = absurd (omega (arith, one.here, get_or-set_same entry job 0 0 h, ap (λ (x : ℕ). get_or (set entry job 0) x 0) d))
 
-    pub next-none : 32 ≤ next → ⊥
-    next-none p = absurd (omega (arith, (left.least j (waits-below entry 32 j short (omega (arith, i))) (stands j n i)).0))
+    pub next-behind : get_or entry next 0 ≡ job + 1
+    next-behind = sym (get_or-set_other entry job next 0 0 next-other) ∙ one.here ∙ e
+
+    pub next-least : length entry ≤ 32 → (j : ℕ) → (j ≡ job → ⊥) → get_or entry j 0 ≡ job + 1 → get_or ticket next 0 ≤ get_or ticket j 0
+    next-least short j n i = one.least j (waits-below entry 32 j short (omega (arith, i))) (stands j n i)
+
+  pub next-none : found ≡ None → length entry ≤ 32 → (j : ℕ) → (j ≡ job → ⊥) → get_or entry j 0 ≡ job + 1 → ⊥
+  next-none is short j n i =
+      let nobody : (j : ℕ) → j < 32 → get_or (set entry job 0) j 0 ≡ of → ⊥ = rw is at left in
+      nobody j (waits-below entry 32 j short (omega (arith, i))) (stands j n i)
 
 -- ---- k is the oldest of those left in the job's entry
 module _ (condition : ℕ → Condition) (ticket entry entry' : List ℕ) (job : ℕ) (q : Entries condition ticket entry) (d : Distinct ticket entry) where

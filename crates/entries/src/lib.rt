@@ -1,22 +1,24 @@
-// Waiting jobs with identical conditions share an entry, and its lead is the oldest of them. `entry` has a number for each job: 0 if the job does
-// not wait, otherwise its lead's number and one.
+// Waiting jobs with identical conditions share an entry, and its lead is the oldest of them. `entry` has a number for each job: 0 if the
+// job does not wait, otherwise its lead's number and one (one byte of the host's room each, so a number and no Option).
 #![tactic(auto)]
 
-ghost use Rattle.std.specs.Prelude.{◌≡◌, ℕ, ◌+◌, ◌<◌, get_or};
+ghost use Rattle.std.specs.Prelude.{◌≡◌, Some, ℕ, ◌+◌, ◌<◌, get_or};
 ghost use Rattle.rules.specs.Limits.{key_most};
 ghost use Rattle.rules.specs.Condition.{Condition};
 ghost use Rattle.condition.specs.Measures.{AllIn};
-ghost use Rattle.condition.specs.Closed.{condition_at};
+ghost use Rattle.condition.specs.Slots.{condition_of};
 ghost use Rattle.entries.specs.Entries.{Waits, Entries, Distinct};
 ghost use Rattle.entries.specs.Alike.{lead_like};
-ghost use Rattle.entries.specs.Firsts.{First};
-ghost use Rattle.entries.specs.Renames.{renamed, Renamed};
+ghost use Rattle.entries.specs.Firsts.{FirstIn};
+ghost use Rattle.entries.specs.Renames.{Renamed};
 ghost use Rattle.entries.specs.Oldest.{chosen, oldest_of};
 ghost use Rattle.entries.specs.Joins.{JoinedTo};
 ghost use Rattle.entries.specs.Parts.{PartedFrom};
 
+use condition::slots::Conditions;
 use identity::same_condition;
 
+// What joining did: three cases, so neither an Option nor a Result; so below.
 #[derive(Drop)]
 pub enum Joined {
     Alone,
@@ -40,103 +42,70 @@ fn number_of(lead: usize) -> u8
 }
 
 // Whether job k leads an entry, and its condition is the job's.
-fn leads_like(
-    entry: &[u8; 32],
-    alternatives: &[u8; 32],
-    atoms: &[u8; 128],
-    measure: &[u8; 512],
-    operator: &[u8; 512],
-    key: &[i64; 512],
-    job: usize,
-    k: usize,
-) -> bool
+fn leads_like(entry: &[u8; 32], conditions: &Conditions, job: usize, k: usize) -> bool
     requires fact_1 { job < 32 }
     requires fact_2 { k < 32 }
-    requires fact_3 { AllIn key_most key.now }
-    ensures { result ≡ lead_like (condition_at alternatives.now atoms.now measure.now operator.now key.now) entry.now job k }
+    requires fact_3 { AllIn key_most conditions.now.key }
+    ensures { result ≡ lead_like (condition_of conditions.now) entry.now job k }
 {
-    let number = number_of(k);
-    if entry[k] == number {
-        return same_condition(alternatives, atoms, measure, operator, key, k, job);
-    }
-    false
+    entry[k] == number_of(k) && same_condition(conditions, k, job)
 }
 
-// The first lead whose condition is the job's, or 32.
+// The first lead whose condition is the job's. No `find`, for the reason at `oldest_of`.
 #[tactic(auto, using(crate::proofs::Laws::firsts))]
-fn lead_like(
-    entry: &[u8; 32],
-    alternatives: &[u8; 32],
-    atoms: &[u8; 128],
-    measure: &[u8; 512],
-    operator: &[u8; 512],
-    key: &[i64; 512],
-    job: usize,
-) -> usize
+fn lead_like(entry: &[u8; 32], conditions: &Conditions, job: usize) -> Option<usize>
     requires fact_1 { job < 32 }
-    requires fact_2 { AllIn key_most key.now }
-    ensures { First (lead_like (condition_at alternatives.now atoms.now measure.now operator.now key.now) entry.now job) 32 result }
+    requires fact_2 { AllIn key_most conditions.now.key }
+    ensures { FirstIn (lead_like (condition_of conditions.now) entry.now job) 32 result }
 {
-    let mut k: usize = 0;
-    while k < 32 {
-        if leads_like(entry, alternatives, atoms, measure, operator, key, job, k) {
-            return k;
+    for k in 0..32 {
+        if leads_like(entry, conditions, job, k) {
+            return Some(k);
         }
-        k += 1;
     }
-    32
-}
-
-// What an entry says that said x.
-fn rename_one(x: u8, old: u8, new: u8) -> u8
-    ensures { result ≡ renamed old new x }
-{
-    if x == old {
-        return new;
-    }
-    x
+    None
 }
 
 // Every entry that says `old` says `new`.
 fn rename(entry: &mut [u8; 32], old: u8, new: u8)
     ensures { Renamed entry.old entry.new old new 32 }
 {
-    // Lent whole, so that a proof knows of 32 places; so below.
-    let _all = &entry[..];
-    let mut i: usize = 0;
-    while i < 32 {
-        entry[i] = rename_one(entry[i], old, new);
-        i += 1;
+    for said in entry.iter_mut() {
+        if *said == old {
+            *said = new;
+        }
     }
 }
 
-// Job k if its entry says `of` and its ticket is less than that of the best so far, otherwise that one; 32 is none.
-fn choose(entry: &[u8; 32], ticket: &[u32; 32], of: u8, best: usize, k: usize) -> usize
-    requires { k < 32 }
+// Job k if its entry says `of` and its ticket is less than that of the best so far, otherwise that one.
+fn choose(
+    entry: &[u8; 32],
+    ticket: &[u32; 32],
+    of: u8,
+    best: Option<usize>,
+    k: usize,
+) -> Option<usize>
+    requires fact_1 { k < 32 }
+    requires fact_2 { (b : ℕ) → best ≡ Some b → b < 32 }
     ensures { result ≡ chosen entry.now ticket.now of best k }
 {
-    if entry[k] == of {
-        if best < 32 {
-            if ticket[k] < ticket[best] {
-                return k;
-            }
-            return best;
-        }
-        return k;
+    if entry[k] != of {
+        return best;
     }
-    best
+    match best {
+        Some(oldest) if ticket[oldest] <= ticket[k] => best,
+        _ => Some(k),
+    }
 }
 
-// The oldest of the jobs whose entry says `of`, or 32.
-#[tactic(auto, using(crate::proofs::Laws::oldest))]
-fn oldest_of(entry: &[u8; 32], ticket: &[u32; 32], of: u8) -> usize
+// The oldest of the jobs whose entry says `of`. No `filter` and `min_by_key`: a closure must be safe at any number that it is called
+// with, and these read arrays at it.
+fn oldest_of(entry: &[u8; 32], ticket: &[u32; 32], of: u8) -> Option<usize>
     ensures { result ≡ oldest_of entry.now ticket.now of 32 }
 {
-    let mut best: usize = 32;
-    let mut k: usize = 0;
-    while k < 32 {
+    let mut best = None;
+    for k in 0..32 {
         best = choose(entry, ticket, of, best, k);
-        k += 1;
     }
     best
 }
@@ -144,57 +113,50 @@ fn oldest_of(entry: &[u8; 32], ticket: &[u32; 32], of: u8) -> usize
 // The job waits from now on: behind the lead with its condition, or, being older, before it, or alone.
 pub fn join_entry(
     entry: &mut [u8; 32],
-    alternatives: &[u8; 32],
-    atoms: &[u8; 128],
-    measure: &[u8; 512],
-    operator: &[u8; 512],
-    key: &[i64; 512],
+    conditions: &Conditions,
     ticket: &[u32; 32],
     job: usize,
 ) -> Joined
     requires job_bound_1 { job < 32 }
-    requires job_bound_2 { AllIn key_most key.now }
+    requires job_bound_2 { AllIn key_most conditions.now.key }
     requires job_bound_3 { get_or entry.old job 0 ≡ 0 }
-    requires entries_1 { Entries (condition_at alternatives.now atoms.now measure.now operator.now key.now) ticket.now entry.old }
+    requires entries_1 { Entries (condition_of conditions.now) ticket.now entry.old }
     requires entries_2 { Distinct ticket.now entry.old }
     requires by_index { (k : ℕ) → Waits entry.old k → get_or ticket.now k 0 ≡ get_or ticket.now job 0 → ⊥ }
-    ensures { JoinedTo (condition_at alternatives.now atoms.now measure.now operator.now key.now) ticket.now entry.old entry.new job result }
+    ensures { JoinedTo (condition_of conditions.now) ticket.now entry.old entry.new job result }
 {
-    let _all = &entry[..];
     let number = number_of(job);
-    let lead = lead_like(entry, alternatives, atoms, measure, operator, key, job);
-    if lead < 32 {
-        let old = number_of(lead);
-        if ticket[lead] < ticket[job] {
-            entry[job] = old;
-            return Joined::Follows;
-        }
-        rename(entry, old, number);
+    let Some(lead) = lead_like(entry, conditions, job) else {
         entry[job] = number;
-        return Joined::Leads(lead);
+        return Joined::Alone;
+    };
+    let old = number_of(lead);
+    if ticket[lead] < ticket[job] {
+        entry[job] = old;
+        return Joined::Follows;
     }
+    rename(entry, old, number);
     entry[job] = number;
-    Joined::Alone
+    Joined::Leads(lead)
 }
 
 // The job, which waits, no longer does: if it led, the oldest of those it leaves behind leads them.
 pub fn part_entry(entry: &mut [u8; 32], ticket: &[u32; 32], job: usize) -> Parted
     requires fact_1 { job < 32 }
     requires fact_2 { Distinct ticket.now entry.old }
-    ensures { (condition : ℕ → Condition) → Entries condition ticket.now entry.old → PartedFrom condition ticket.now entry.old entry.new job result }
+    ensures { (condition : ℕ → Condition) → Entries condition ticket.now entry.old →
+        PartedFrom condition ticket.now entry.old entry.new job result }
 {
-    let _all = &entry[..];
     let number = number_of(job);
-    if entry[job] == number {
-        entry[job] = 0;
-        let next = oldest_of(entry, ticket, number);
-        if next < 32 {
-            let new = number_of(next);
-            rename(entry, number, new);
-            return Parted::Next(next);
-        }
-        return Parted::Ends;
-    }
+    let led = entry[job] == number;
     entry[job] = 0;
-    Parted::Follower
+    if !led {
+        return Parted::Follower;
+    }
+    let Some(next) = oldest_of(entry, ticket, number) else {
+        return Parted::Ends;
+    };
+    let new = number_of(next);
+    rename(entry, number, new);
+    Parted::Next(next)
 }

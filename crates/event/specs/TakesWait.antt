@@ -1,6 +1,6 @@
 -- A Wait taken from bytes: its numbers were read into slots, and the closure of what the slots hold is that of what the rules read, which is all that
 -- the rules' step looks at.
-use Rattle.std.specs.Prelude.{◌≡◌, List, [], ℕ, ◌≤◌, ◌<◌, ℤ, get_or, length, drop}
+use Rattle.std.specs.Prelude.{◌≡◌, List, [], ℕ, ◌≤◌, ◌<◌, ℤ, get_or, length, drop, None, Result, Ok, Err}
 use Rattle.std.proofs.Common.{sym, ap, ◌∙◌, subst, arith}
 use Rattle.std.proofs.Math.Option.{some}
 use Rattle.std.proofs.Math.ListN.{get_or-eq_default}
@@ -12,10 +12,10 @@ use Rattle.rules.specs.Step as rules
 use Rattle.rules.specs.Record.{event}
 use Rattle.rules.specs.Laws.WellFormed.{sound-event}
 use Rattle.rules.specs.Demands.Tickets.{ticket_of}
-use Rattle.fields.specs.Answers.{refusal_in}
+use Rattle.fields.specs.Answers.{numbered}
 use Rattle.fields.specs.Places.{at_place}
-use Rattle.fields.specs.declared.number.Number.{Number}
-use Rattle.fields.specs.declared.number.Number.TheVariants as number
+use Rattle.fields.specs.Refusals.{refusal_number}
+use Rattle.fields.specs.declared.refusal.Refusal.{Refusal}
 use Rattle.wire.specs.Heads.{head_at}
 use Rattle.wire.specs.Events.{HeadMeans, head-means}
 use Rattle.wire.specs.WaitSlots.{WaitSlots, Body, numbers, as_wait, locals_of, ReadsWait}
@@ -25,16 +25,13 @@ use Rattle.given.specs.Taken as given
 use Rattle.room.specs.Arrays.{Arrays, standing_at, room_of}
 use Rattle.room.specs.Stores.{store_waited}
 use Rattle.room.specs.Kept.{Kept}
-use Rattle.room.specs.Reports.{meaning}
+use Rattle.room.specs.Reports.{Report, meaning}
 use Rattle.room.specs.Standings.{standing-is, code-waiting, code-called}
 use Rattle.room.specs.Steps.{Stepped}
 use Rattle.wait.specs.Waits.{GivenFit, Waited}
 use Rattle.event.specs.Answers.{placed}
 use Rattle.event.specs.Takes.{Takes, by-step, by-refusal, event-fits}
 use Rattle.event.specs.TakesHead.{wait_head}
-use Rattle.room.specs.declared.report.Report.{Report}
-use Rattle.event.specs.declared.Taken.{Taken}
-use Rattle.event.specs.declared.Taken.TheVariants.{Refused}
 
 -- who waits or is called has a ticket below the next
 pub tickets-below : (a : Arrays) → Kept a → (j : ℕ) → 3 ≤ get_or a.standing j 0 → get_or a.ticket j 0 < a.next
@@ -56,28 +53,28 @@ module _ (a : Arrays) (k : Kept a) (bytes : List ℕ) (at job next : ℕ) (from 
   means = (subst (HeadMeans a.measures bytes left) from (head-means a.measures bytes at)).0
 
   some_left : left ≡ [] → ⊥
-  some_left e = let f : head_at bytes [] ≡ wait_head job next = ap (head_at bytes) (sym e) ∙ from in let y : ◌≡◌ {A = ℕ} 0 1 = cc in omega arith
+  some_left e = let f : Ok None ≡ wait_head job next = ap (head_at bytes) (sym e) ∙ from in let y : ◌≡◌ {A = ℕ} 0 1 = cc in omega arith
 
   -- what `read_wait` answered, for as many measures as there are
-  module _ {m : ℕ} (is : m ≡ a.measures) {r : Number} {l : List ℤ} {s : WaitSlots} (waits₀ : ReadsWait bytes (numbers m (drop next bytes)) r l s) where
-    waits : ReadsWait bytes (numbers a.measures (drop next bytes)) r l s
-    waits = subst (λ n. ReadsWait bytes (numbers n (drop next bytes)) r l s) is waits₀
+  module _ {m : ℕ} (is : m ≡ a.measures) (r : Result (ℕ × ℕ) Refusal) {l : List ℤ} {s : WaitSlots}
+      (waits₀ : ReadsWait bytes (numbers m (drop next bytes)) (numbered r) l s) where
+    waits : ReadsWait bytes (numbers a.measures (drop next bytes)) (numbered r) l s
+    waits = subst (λ n. ReadsWait bytes (numbers n (drop next bytes)) (numbered r) l s) is waits₀
 
-    no-numbers : {n : ℕ} → r ≡ number.Refused n → numbers a.measures (drop next bytes) ≡ refused n
-    no-numbers {n} e = go (numbers a.measures (drop next bytes)) (sym e ∙ waits.0)
+    no-numbers : {c : Refusal} → r ≡ Err c → numbers a.measures (drop next bytes) ≡ refused (refusal_number c)
+    no-numbers {c} e = go (numbers a.measures (drop next bytes)) (sym (ap numbered e) ∙ waits.0)
       where
-        go : (x : Read Body) → number.Refused n ≡ as_wait bytes x → x ≡ refused n
+        go : (x : Read Body) → Err (refusal_number c) ≡ as_wait bytes x → x ≡ refused (refusal_number c)
         go (read b rest) q = let z : ◌≡◌ {A = ℕ} 0 1 = cc in absurd (omega arith)
-        go (refused i) q = let y : i ≡ n = cc in ap refused y
+        go (refused i) q = let y : i ≡ refusal_number c = cc in ap refused y
 
-    pub takes-no-wait : {n y : ℕ} → r ≡ number.Refused n → y ≡ refusal_in r → Takes a a bytes at (Refused y at)
-    takes-no-wait {n} {y} e q =
-        let d : event a.measures left ≡ refused n = means ∙ ap (λ x. after x (λ b. pure (wait job b.locals b.condition))) (no-numbers e) in
-        subst (λ i. Takes a a bytes at (Refused i at)) (sym (q ∙ ap refusal_in e)) (by-refusal a k bytes at some_left d)
+    pub takes-no-wait : {c : Refusal} → r ≡ Err c → Takes a a bytes at (placed (Err c) at)
+    takes-no-wait {c} e =
+        by-refusal a k bytes at some_left (means ∙ ap (λ x. after x (λ b. pure (wait job b.locals b.condition))) (no-numbers e))
 
-    module _ {count next₂ : ℕ} (got : r ≡ number.Got count next₂) where
-      t : given.WaitTaken a.measures bytes next count next₂ l s
-      t = taken a.measures bytes next waits got
+    module _ {p : ℕ × ℕ} (got : r ≡ Ok p) where
+      t : given.WaitTaken a.measures bytes next p.0 p.1 l s
+      t = taken a.measures bytes next waits (ap numbered got)
 
       abbrev read-event : Event
       read-event = wait job t.body.locals t.body.condition
@@ -85,17 +82,17 @@ module _ (a : Arrays) (k : Kept a) (bytes : List ℕ) (at job next : ℕ) (from 
       reads : event a.measures left ≡ read read-event t.rest
       reads = means ∙ ap (λ x. after x (λ b. pure (wait job b.locals b.condition))) t.reads
 
-      rest-is : t.rest ≡ drop next₂ bytes
+      rest-is : t.rest ≡ drop p.1 bytes
       rest-is = at_place bytes at ((sound-event a.measures).gives left read-event t.rest reads).1 ∙ ap (λ n. drop n bytes) (sym t.place)
 
       pub wait-small : job < 32
       wait-small = (event-fits a k bytes at reads).0
 
-      pub count-few : count < 256
-      count-few = let c : count ≡ length t.body.condition = counted in omega (arith, c, t.fits.0.0.1)
+      pub count-few : p.0 < 256
+      count-few = let c : p.0 ≡ length t.body.condition = counted in omega (arith, c, t.fits.0.0.1)
         where
-          counted : count ≡ length t.body.condition
-          counted = let q : number.Got count next₂ ≡ as_wait bytes (read t.body t.rest) = sym got ∙ waits.0 ∙ ap (as_wait bytes) t.reads in cc
+          counted : p.0 ≡ length t.body.condition
+          counted = let q : Ok p ≡ as_wait bytes (read t.body t.rest) = sym (ap numbered got) ∙ waits.0 ∙ ap (as_wait bytes) t.reads in cc
 
       pub given-fit : (few : ℕ) → GivenFit a.measures (given_in few s l)
       given-fit few = record {
@@ -107,12 +104,13 @@ module _ (a : Arrays) (k : Kept a) (bytes : List ℕ) (at job next : ℕ) (from 
         four = ap length (waits.1 ∙ ap locals_of t.reads) ∙ t.fits.1.0;
       }
 
-      same_step : step (room_of a) (wait job l (given_condition (given_in count s l))) ≡ step (room_of a) read-event
+      same_step : step (room_of a) (wait job l (given_condition (given_in p.0 s l))) ≡ step (room_of a) read-event
       same_step = ap (λ c. rules.needs (is_inside (standing (room_of a) job)) (room_of a) (waited job c (room_of a))) t.closed
 
-      pub takes-wait : {few : ℕ} → few ≡ count → {b : Arrays} {w : Report} → Waited a b job (given_in few s l) w → {u : Taken} → u ≡ placed w next₂ → Takes a b bytes at u
+      pub takes-wait : {few : ℕ} → few ≡ p.0 → {b : Arrays} {w : Report} → Waited a b job (given_in few s l) w →
+          Takes a b bytes at (placed w p.1)
       takes-wait {few} f {b} {w} w₀ =
-          let w₁ : Waited a b job (given_in count s l) w = subst (λ n. Waited a b job (given_in n s l) w) f w₀ in
+          let w₁ : Waited a b job (given_in p.0 s l) w = subst (λ n. Waited a b job (given_in n s l) w) f w₀ in
           let st = w₁.stepped in
           let stepped : Stepped a b read-event w = record {
             report = st.report ∙ ap (λ (x : rules.Step). x.report) same_step;

@@ -1,13 +1,14 @@
 -- Reading a number group by group is the rules' `groups`: the first byte decides, or the groups after it do. How large such a number can be.
-use Rattle.std.specs.Prelude.{◌≡◌, refl, Bool, true, false, List, [], ◌∷◌, ℕ, zero, suc, ◌+◌, ◌*◌, ◌-◌, ◌<◌, ◌≤◌, eqb, get_or, drop, length}
+use Rattle.std.specs.Prelude.{◌≡◌, refl, Bool, true, false, List, [], ◌∷◌, ℕ, zero, suc, ◌+◌, ◌*◌, ◌-◌, ◌<◌, ◌≤◌, eqb, get_or, drop}
+use Rattle.std.specs.Prelude.{length, Result, Ok, Err}
 use Rattle.std.proofs.Common.{sym, ap, ◌∙◌, add-one, arith, lt-ltb, le-ltb, le-leb, eq-eqb, ne_eqb, length-drop, drop_of_length-le, drop-cons}
 use Rattle.std.proofs.Math.Decide.{ℕ_discrete, dec_lt}
 use Rattle.std.proofs.lemmas.Bool.{lt-leb}
 use Rattle.rules.specs.Laws.In.{true-not-false}
 use Rattle.rules.specs.Number.{Read, read, refused, bad_group, groups, pure, after}
-use Rattle.fields.specs.Answers.{place_of, as_number}
-use Rattle.fields.specs.declared.number.Number.{Number}
-use Rattle.fields.specs.declared.number.Number.TheVariants.{Got, Refused}
+use Rattle.fields.specs.Answers.{place_of, as_answer, numbered}
+use Rattle.fields.specs.Refusals.{refusal_number}
+use Rattle.fields.specs.declared.refusal.Refusal.{Refusal}
 
 -- ---- the test of a group
 module _ (place b : ℕ) where
@@ -35,15 +36,15 @@ module _ (place b : ℕ) where
 abbrev pub groups_most : ℕ → ℕ
 groups_most place = get_or (0 ∷ 4_294_967_296 ∷ 33_554_432 ∷ 262_144 ∷ 2_048 ∷ 16 ∷ []) place 0
 
-abbrev pub Bounded : ℕ → Number → Type 0
-Bounded place (Got n next) = n < groups_most place
-Bounded place (Refused k) = Unit {0}
+abbrev pub Bounded : ℕ → Result (ℕ × ℕ) Refusal → Type 0
+Bounded place (Ok p) = p.0 < groups_most place
+Bounded place (Err e) = Unit {0}
 
-pub got-bounded : (place : ℕ) {r : Number} {n next : ℕ} → r ≡ Got n next → Bounded place r → n < groups_most place
+pub got-bounded : (place : ℕ) {r : Result (ℕ × ℕ) Refusal} {p : ℕ × ℕ} → r ≡ Ok p → Bounded place r → p.0 < groups_most place
 got-bounded place e h = rw e at h
 
-pub refused-bounded : (place : ℕ) {r : Number} {k : ℕ} → r ≡ Refused k → Bounded place r
-refused-bounded place e = rw e tt
+pub refused-bounded : (place : ℕ) {r : Result (ℕ × ℕ) Refusal} {e : Refusal} → r ≡ Err e → Bounded place r
+refused-bounded place q = rw q tt
 
 pub most_step : (place : ℕ) → 1 ≤ place → place < 5 → groups_most place ≡ 128 * groups_most (place + 1)
 most_step zero l h = absurd (omega arith)
@@ -72,22 +73,22 @@ most-last (suc (suc (suc (suc (suc (suc n)))))) b l h k f = absurd (omega arith)
 
 -- ---- one byte of the number, as the code has it: b is the byte at this place
 module _ (bytes : List ℕ) (at place : ℕ) where
-  pub groups-ended : length bytes ≤ at → Refused 1 ≡ as_number bytes (groups place (drop at bytes))
+  pub groups-ended : length bytes ≤ at → Err 1 ≡ as_answer bytes (groups place (drop at bytes))
   groups-ended h = rw (drop_of_length-le bytes h)
 
-  module _ {b : ℕ} {t : Bool} (in_bytes : at < length bytes) (byte : (b ≡ get_or bytes at 0) × (b < 256)) (test : t ≡ bad_group place b) where
+  module _ {b : ℕ} {t : Bool} (in_bytes : at < length bytes) (byte : b ≡ get_or bytes at 0) (test : t ≡ bad_group place b) where
     -- the bytes from here on
     here : drop at bytes ≡ b ∷ drop (suc at) bytes
-    here = drop-cons bytes at 0 in_bytes ∙ ap (λ x. x ∷ drop (suc at) bytes) (sym byte.0)
+    here = drop-cons bytes at 0 in_bytes ∙ ap (λ x. x ∷ drop (suc at) bytes) (sym byte)
 
     after-place : place_of bytes (drop (suc at) bytes) ≡ at + 1
     after-place = rw (length-drop (suc at) bytes) (omega arith)
 
-    pub groups-bad : t ≡ true → Refused 2 ≡ as_number bytes (groups place (drop at bytes))
+    pub groups-bad : t ≡ true → Err 2 ≡ as_answer bytes (groups place (drop at bytes))
     groups-bad e = rw (here, sym test ∙ e, groups)
 
     module _ (good : t ≡ false) where
-      pub groups-last : b < 128 → Got b (at + 1) ≡ as_number bytes (groups place (drop at bytes))
+      pub groups-last : b < 128 → Ok (b, at + 1) ≡ as_answer bytes (groups place (drop at bytes))
       groups-last h = rw (here, sym test ∙ good, lt-ltb b 128 h, groups, after-place)
 
       pub last-bounded : 1 ≤ place → place ≤ 5 → b < 128 → b < groups_most place
@@ -97,23 +98,28 @@ module _ (bytes : List ℕ) (at place : ℕ) where
           go q (yes d) = d
           go q (no d) = absurd (true-not-false (sym (bad-high place b q (omega (arith, d)))) (sym test ∙ good))
 
-      module _ {higher : Number} (from : higher ≡ as_number bytes (groups (place + 1) (drop (at + 1) bytes))) (large : 128 ≤ b) where
-        pub groups-more : (n next : ℕ) → higher ≡ Got n next → Got (b - 128 + 128 * n) next ≡ as_number bytes (groups place (drop at bytes))
-        groups-more n next e = rw (here, sym test ∙ good, le-ltb b 128 large, groups) (go (groups (suc place) (drop (suc at) bytes)) (sym e ∙ from'))
+      module _ {higher : Result (ℕ × ℕ) Refusal} (from : numbered higher ≡ as_answer bytes (groups (place + 1) (drop (at + 1) bytes)))
+          (large : 128 ≤ b) where
+        pub groups-more : (p : ℕ × ℕ) → higher ≡ Ok p → Ok (b - 128 + 128 * p.0, p.1) ≡ as_answer bytes (groups place (drop at bytes))
+        groups-more p e = rw (here, sym test ∙ good, le-ltb b 128 large, groups)
+            (go (groups (suc place) (drop (suc at) bytes)) (sym (ap numbered e) ∙ from'))
           where
-            from' : higher ≡ as_number bytes (groups (suc place) (drop (suc at) bytes))
+            from' : numbered higher ≡ as_answer bytes (groups (suc place) (drop (suc at) bytes))
             from' = rw (add-one at, add-one place) at from
 
-            go : (x : Read ℕ) → Got n next ≡ as_number bytes x → Got (b - 128 + 128 * n) next ≡ as_number bytes (after x (λ m. pure (b - 128 + 128 * m)))
-            go (read m rest) q = cc
+            go : (x : Read ℕ) → Ok p ≡ as_answer bytes x →
+                Ok (b - 128 + 128 * p.0, p.1) ≡ as_answer bytes (after x (λ m. pure (b - 128 + 128 * m)))
+            go (read m rest) q = let s : p ≡ (m, place_of bytes rest) = cc in rw s refl
             go (refused k) q = let z : ◌≡◌ {A = ℕ} 0 1 = cc in absurd (omega arith)
 
-        pub groups-refused : (k : ℕ) → higher ≡ Refused k → higher ≡ as_number bytes (groups place (drop at bytes))
-        groups-refused k e = e ∙ rw (here, sym test ∙ good, le-ltb b 128 large, groups) (go (groups (suc place) (drop (suc at) bytes)) (sym e ∙ from'))
+        pub groups-refused : (e : Refusal) → higher ≡ Err e → Err (refusal_number e) ≡ as_answer bytes (groups place (drop at bytes))
+        groups-refused e h = rw (here, sym test ∙ good, le-ltb b 128 large, groups)
+            (go (groups (suc place) (drop (suc at) bytes)) (sym (ap numbered h) ∙ from'))
           where
-            from' : higher ≡ as_number bytes (groups (suc place) (drop (suc at) bytes))
+            from' : numbered higher ≡ as_answer bytes (groups (suc place) (drop (suc at) bytes))
             from' = rw (add-one at, add-one place) at from
 
-            go : (x : Read ℕ) → Refused k ≡ as_number bytes x → Refused k ≡ as_number bytes (after x (λ m. pure (b - 128 + 128 * m)))
+            go : (x : Read ℕ) → Err (refusal_number e) ≡ as_answer bytes x →
+                Err (refusal_number e) ≡ as_answer bytes (after x (λ m. pure (b - 128 + 128 * m)))
             go (read m rest) q = let z : ◌≡◌ {A = ℕ} 0 1 = cc in absurd (omega arith)
             go (refused m) q = q

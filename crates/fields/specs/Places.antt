@@ -1,14 +1,12 @@
 -- Where reading goes on: what a reader of the rules leaves is what stands from the next place on.
-use Rattle.std.specs.Prelude.{◌≡◌, refl, List, [], ℕ, ◌+◌, ◌≤◌, ℤ, length, drop}
+use Rattle.std.specs.Prelude.{◌≡◌, refl, List, [], ℕ, ◌+◌, ◌≤◌, length, drop, Result, Ok, Err}
 use Rattle.std.proofs.Common.{sym, ap, ◌∙◌, arith, length-drop, drop_of_length-le, drop-drop}
 use Rattle.std.proofs.Math.Decide.{dec_le}
 use Rattle.rules.specs.Number.{Read, read, refused, Reader}
 use Rattle.rules.specs.Laws.Readers.{Took, SoundReader}
-use Rattle.fields.specs.Answers.{place_of, as_number, as_signed}
-use Rattle.fields.specs.declared.number.Number.{Number}
-use Rattle.fields.specs.declared.number.Number.TheVariants as number
-use Rattle.fields.specs.declared.field.Signed.{Signed}
-use Rattle.fields.specs.declared.field.Signed.TheVariants as signed
+use Rattle.fields.specs.Answers.{place_of, as_answer, numbered}
+use Rattle.fields.specs.Refusals.{refusal_number}
+use Rattle.fields.specs.declared.refusal.Refusal.{Refusal}
 
 -- the place of what is left after n bytes
 pub place_after : (bytes : List ℕ) (n : ℕ) → n ≤ length bytes → place_of bytes (drop n bytes) ≡ n
@@ -34,32 +32,19 @@ module _ {A : Type 0} {k : ℕ} {P : A → Type 0} {p : Reader A} (s : SoundRead
   placed : (a : A) (next : ℕ) (rest : List ℕ) → p (drop at bytes) ≡ read a rest → next ≡ place_of bytes rest → ReadTo a next
   placed a next rest d b = (d ∙ ap (read a) (at_place bytes at (s.gives (drop at bytes) a rest d).1 ∙ ap (λ j. drop j bytes) (sym b)), omega arith)
 
-module _ {k : ℕ} {P : ℕ → Type 0} {p : Reader ℕ} (s : SoundReader k P p) (bytes : List ℕ) (at : ℕ) {r : Number} (from : r ≡ as_number bytes (p (drop at bytes))) where
-  pub number_read : {n next : ℕ} → r ≡ number.Got n next → ReadTo s bytes at n next
-  number_read {n} {next} got = go (p (drop at bytes)) refl (sym got ∙ from)
+module _ {A : Type 0} {k : ℕ} {P : A → Type 0} {p : Reader A} (s : SoundReader k P p) (bytes : List ℕ) (at : ℕ)
+    {r : Result (A × ℕ) Refusal} (from : numbered r ≡ as_answer bytes (p (drop at bytes))) where
+  pub answer_read : {c : A × ℕ} → r ≡ Ok c → ReadTo s bytes at c.0 c.1
+  answer_read {c} got = go (p (drop at bytes)) refl (sym (ap numbered got) ∙ from)
     where
-      go : (x : Read ℕ) → p (drop at bytes) ≡ x → number.Got n next ≡ as_number bytes x → ReadTo s bytes at n next
-      go (read m rest) d q = let a : m ≡ n = cc in placed s bytes at n next rest (d ∙ ap (λ i. read i rest) a) (cc)
+      go : (x : Read A) → p (drop at bytes) ≡ x → Ok c ≡ as_answer bytes x → ReadTo s bytes at c.0 c.1
+      go (read m rest) d q = let a : m ≡ c.0 = cc in placed s bytes at c.0 c.1 rest (d ∙ ap (λ i. read i rest) a) (cc)
       go (refused j) d q = let z : ◌≡◌ {A = ℕ} 0 1 = cc in absurd (omega arith)
 
-  pub number-refused : {j : ℕ} → r ≡ number.Refused j → p (drop at bytes) ≡ refused j
-  number-refused {j} got = go (p (drop at bytes)) refl (sym got ∙ from)
+  pub answer-refused : {e : Refusal} → r ≡ Err e → p (drop at bytes) ≡ refused (refusal_number e)
+  answer-refused {e} got = go (p (drop at bytes)) refl (sym (ap numbered got) ∙ from)
     where
-      go : (x : Read ℕ) → p (drop at bytes) ≡ x → number.Refused j ≡ as_number bytes x → p (drop at bytes) ≡ refused j
+      go : (x : Read A) → p (drop at bytes) ≡ x → Err (refusal_number e) ≡ as_answer bytes x →
+          p (drop at bytes) ≡ refused (refusal_number e)
       go (read m rest) d q = let z : ◌≡◌ {A = ℕ} 0 1 = cc in absurd (omega arith)
-      go (refused i) d q = let a : i ≡ j = cc in d ∙ ap refused a
-
-module _ {k : ℕ} {P : ℤ → Type 0} {p : Reader ℤ} (s : SoundReader k P p) (bytes : List ℕ) (at : ℕ) {r : Signed} (from : r ≡ as_signed bytes (p (drop at bytes))) where
-  pub signed-read : {z : ℤ} {next : ℕ} → r ≡ signed.Got z next → ReadTo s bytes at z next
-  signed-read {z} {next} got = go (p (drop at bytes)) refl (sym got ∙ from)
-    where
-      go : (x : Read ℤ) → p (drop at bytes) ≡ x → signed.Got z next ≡ as_signed bytes x → ReadTo s bytes at z next
-      go (read y rest) d q = let a : y ≡ z = cc in placed s bytes at z next rest (d ∙ ap (λ i. read i rest) a) (cc)
-      go (refused j) d q = let e : ◌≡◌ {A = ℕ} 0 1 = cc in absurd (omega arith)
-
-  pub signed-refused : {j : ℕ} → r ≡ signed.Refused j → p (drop at bytes) ≡ refused j
-  signed-refused {j} got = go (p (drop at bytes)) refl (sym got ∙ from)
-    where
-      go : (x : Read ℤ) → p (drop at bytes) ≡ x → signed.Refused j ≡ as_signed bytes x → p (drop at bytes) ≡ refused j
-      go (read y rest) d q = let e : ◌≡◌ {A = ℕ} 0 1 = cc in absurd (omega arith)
-      go (refused i) d q = let a : i ≡ j = cc in d ∙ ap refused a
+      go (refused i) d q = let a : i ≡ refusal_number e = cc in d ∙ ap refused a

@@ -1,6 +1,7 @@
-// Numbers and the fields of a record (document 01, "Bytes"): each reader takes the bytes and a place in them, and answers what it read and the
-// next place, or the refusal.
+// Numbers and the fields of a record (document 01, "Bytes"): each reader takes the bytes and a place in them, and answers what it read and
+// the next place, or the refusal.
 #![tactic(auto)]
 
 pub mod field;
 pub mod number;
+pub mod refusal;

@@ -1,7 +1,8 @@
 -- What the laws of homes ask of a tag holds of the nodes of a room, and what they ask of the measures' values does too.
-use Rattle.std.specs.Prelude.{◌≡◌, true, ◌⊎◌, List, ℕ, ◌+◌, ◌*◌, ◌<◌, ◌≤◌, ℤ, pos, get_or}
+use Rattle.std.specs.Prelude.{Option, Some, None, ◌≡◌, true, ◌⊎◌, List, ℕ, ◌+◌, ◌*◌, ◌<◌, ◌≤◌, ℤ, pos, get_or}
 use Rattle.std.proofs.Common.{sym, subst, inl, inr, arith, eqb-true, leb-true, lit≤}
-use Rattle.std.proofs.Math.Option.{Option, none, some}
+use Rattle.std.proofs.Math.Option as math
+use Rattle.std.proofs.Math.Option.{none, some}
 use Rattle.std.proofs.Math.Decide.{dec_lt}
 use Rattle.rules.specs.Limits.{coefficient_most, value_most, key_most}
 use Rattle.rules.specs.Base.{first}
@@ -14,8 +15,6 @@ use Rattle.condition.specs.Measures.{AllIn, term, now_at, now-at, now-past}
 use Rattle.condition.specs.Closed.{atom_at, alternative_at}
 use Rattle.condition.specs.Closing.{local-within}
 use Rattle.condition.specs.Tags.{tag_at, tag_means, tag-means}
-use Rattle.condition.specs.declared.tag.Tag.{Tag}
-use Rattle.condition.specs.declared.tag.Tag.TheVariants.{At, Nowhere}
 use Rattle.ranks.specs.Words.{key_room, TagFits}
 use Rattle.filing.specs.Words.{key-room}
 use Rattle.filing.specs.Kinds.{TagOperator}
@@ -24,7 +23,8 @@ use Rattle.filing.specs.Kinds.{TagOperator}
 tag-passes : (l : List Atom) (a : Atom) → tag l ≡ some a → (is_equality a ≡ true) ⊎ (is_threshold a ≡ true)
 tag-passes l a = go (first is_equality l) (first is_threshold l) (first-true is_equality l) (first-true is_threshold l)
   where
-    go : (o p : Option Atom) → ((b : Atom) → o ≡ some b → is_equality b ≡ true) → ((b : Atom) → p ≡ some b → is_threshold b ≡ true) → or_else o p ≡ some a → (is_equality a ≡ true) ⊎ (is_threshold a ≡ true)
+    go : (o p : math.Option Atom) → ((b : Atom) → o ≡ some b → is_equality b ≡ true) → ((b : Atom) → p ≡ some b → is_threshold b ≡ true) →
+        or_else o p ≡ some a → (is_equality a ≡ true) ⊎ (is_threshold a ≡ true)
     go (some b) p f g e = inl (f a e)
     go none p f g e = inr (g a e)
 
@@ -32,19 +32,20 @@ module _ (atoms measure operator : List ℕ) (key : List ℤ) (node : ℕ) where
   pub node-fits : ((k : ℕ) → get_or measure k 0 < 16) → AllIn key_most key → TagFits (tag_means measure operator key (tag_at atoms operator node))
   node-fits small keys = go (tag_at atoms operator node)
     where
-      go : (t : Tag) → TagFits (tag_means measure operator key t)
-      go (At slot) = (small slot, key-room key keys slot)
-      go Nowhere = tt
+      go : (t : Option ℕ) → TagFits (tag_means measure operator key t)
+      go (Some slot) = (small slot, key-room key keys slot)
+      go None = tt
 
   pub node-operator : ((k : ℕ) → get_or operator k 0 ≤ 6) → TagOperator (tag_means measure operator key (tag_at atoms operator node))
   node-operator most = go (tag_at atoms operator node) (sym (tag-means atoms measure operator key (λ k. omega (arith, most k)) node))
     where
-      go : (t : Tag) → tag (alternative_at atoms measure operator key node) ≡ tag_means measure operator key t → TagOperator (tag_means measure operator key t)
-      go (At slot) e = elim (tag-passes (alternative_at atoms measure operator key node) (atom_at measure operator key slot) e) [
+      go : (t : Option ℕ) → tag (alternative_at atoms measure operator key node) ≡ tag_means measure operator key t →
+          TagOperator (tag_means measure operator key t)
+      go (Some slot) e = elim (tag-passes (alternative_at atoms measure operator key node) (atom_at measure operator key slot) e) [
         | inl p ↦ inl (eqb-true (get_or operator slot 0) 1 p)
         | inr p ↦ inr (leb-true 3 (get_or operator slot 0) p, most slot)
       ]
-      go Nowhere e = tt
+      go None e = tt
 
 -- ---- a sum of eight products is at most 800,000,000 from 0
 module _ (coefficients values : List ℤ) (c : AllIn coefficient_most coefficients) (v : AllIn value_most values) where

@@ -1,4 +1,4 @@
--- The values of the measures, read off the lent slots, are the rules': a measure's slots hold its coefficients, and where there is no measure
+-- The values of the measures, read off the slots, are the rules': a measure's slots hold its coefficients, and where there is no measure
 -- every coefficient is 0, so both give 0.
 use Rattle.std.specs.Prelude.{◌≡◌, refl, List, [], map, ℕ, zero, suc, ◌+◌, ◌*◌, ◌<◌, ◌≤◌, ℤ, pos, ◌*ℤ◌, get_or, length}
 use Rattle.std.proofs.Common.{sym, ap, ◌∙◌, zero-add, arith}

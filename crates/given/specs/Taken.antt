@@ -1,13 +1,11 @@
 -- What an accepted Wait leaves in its slots, for those who call `read_wait` and then `given_true` or `close`: the condition that was read, within
 -- document 01's ranges.
-use Rattle.std.specs.Prelude.{◌≡◌, refl, List, ℕ, ℤ, drop, length}
+use Rattle.std.specs.Prelude.{◌≡◌, refl, List, ℕ, ℤ, Result, Ok, drop, length}
 use Rattle.std.proofs.Common.{sym, ap, subst, ◌∙◌, arith}
 use Rattle.rules.specs.Limits.{value_most, locals}
 use Rattle.rules.specs.Number.{Read, read, refused}
 use Rattle.rules.specs.Condition.{Given, closure}
 use Rattle.fields.specs.Answers.{place_of}
-use Rattle.fields.specs.declared.number.Number.{Number}
-use Rattle.fields.specs.declared.number.Number.TheVariants as number
 use Rattle.wire.specs.WaitSlots.{WaitSlots, put_alternatives, no_slots, Body, numbers, ReadsWait}
 use Rattle.condition.specs.Measures.{AllIn}
 use Rattle.condition.specs.Closing.{GivenSlots, given_slots}
@@ -35,19 +33,21 @@ module _ (measures : ℕ) (bytes : List ℕ) (at : ℕ) where
     pub hold : given_in count s l ≡ slots_for body.locals body.condition
     pub closed : closure l (given_condition (given_in count s l)) ≡ closure body.locals body.condition
 
-  pub taken : {r : Number} {count next : ℕ} {l : List ℤ} {s : WaitSlots} → ReadsWait bytes (numbers measures (drop at bytes)) r l s → r ≡ number.Got count next → WaitTaken count next l s
+  pub taken : {r : Result (ℕ × ℕ) ℕ} {count next : ℕ} {l : List ℤ} {s : WaitSlots} →
+      ReadsWait bytes (numbers measures (drop at bytes)) r l s → r ≡ Ok (count, next) → WaitTaken count next l s
   taken {r} {count} {next} {l} {s} waits e = go (numbers measures (drop at bytes)) refl waits
     where
       go : (x : Read Body) → numbers measures (drop at bytes) ≡ x → ReadsWait bytes x r l s → WaitTaken count next l s
       go (read b rest) d w =
           let f = read_fits measures bytes at d in
-          let counted : count ≡ length b.condition = cc in
+          let answer : ◌≡◌ {A = ℕ × ℕ} (count, next) (length b.condition, place_of bytes rest) = cc in
+          let counted : count ≡ length b.condition = ap (λ p. p.0) answer in
           let hold : given_in count s l ≡ slots_for b.locals b.condition = λ i. given_in (counted i) (w.2 i) (w.1 i) in
           record {
             body = b;
             rest = rest;
             reads = d;
-            place = cc;
+            place = ap (λ p. p.1) answer;
             fits = f;
             slots = subst (WaitFits measures) (sym w.2) (slots-fit measures b.condition f.0);
             locals-within = subst (AllIn value_most) (sym w.1) (numbers-in locals value_most b.locals f.1);

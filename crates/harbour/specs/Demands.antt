@@ -1,6 +1,6 @@
 -- The three demands, for the code: from any accepted opening, after any byte strings given as events, in any order, refused ones among them. What is
 -- said of a host's room and tally is what the contracts of `harbour_open` and `harbour_event` say of them; beside this file a reader needs the rules.
-use Rattle.std.specs.Prelude.{◌≡◌, refl, List, [], ◌∷◌, ◌↔◌, pos, length, replicate, ℕ}
+use Rattle.std.specs.Prelude.{◌≡◌, refl, List, [], ◌∷◌, ◌↔◌, pos, length, replicate, ℕ, Ok}
 use Rattle.std.proofs.Common.{sym, ap, ◌∙◌, subst}
 use Rattle.std.proofs.Math.Option.{none, some}
 use Rattle.rules.specs.Number.{Read, read, refused}
@@ -21,30 +21,45 @@ use Rattle.rules.proofs.Demands.Searches.{step-calls-truly, search-reports, sear
 use Rattle.rules.specs.Demands.Relay.{Relay}
 use Rattle.rules.specs.Demands.Reached.{room_after, Reached}
 use Rattle.rules.proofs.Demands.Reached.{reached-relay}
-use Rattle.condition.specs.Closing.{closed_slots}
-use Rattle.index.specs.Index.{Index}
+use Rattle.condition.specs.Slots.{closed_of}
+use Rattle.index.specs.Structs.{IsIndex}
 use Rattle.fields.specs.Answers.{place_of}
+use Rattle.wire.specs.Openings.{as_opening, coefficients_of, values_of}
 use Rattle.tally.specs.Added.{tally_of, tally_of-one}
 use Rattle.tally.specs.declared.Tally.{Tally}
+use Rattle.room.specs.declared.room.Room.{Room}
+use Rattle.room.specs.Arrays.{room_of}
 use Rattle.room.specs.Kept.{Kept}
-use Rattle.opening.specs.Opens.{empty_with, opened-means, refused-means}
+use Rattle.opening.specs.Opens.{empty_with, opened-means, room-of-empty}
 use Rattle.event.specs.Takes.{take-read, measures-many}
 use Rattle.harbour.specs.Alike.{Alike, alike}
 use Rattle.harbour.specs.Rooms.{arrays_of, meaning}
 use Rattle.harbour.specs.Openings.{OpensRoom, opened_numbers, told_opening}
 use Rattle.harbour.specs.Reports.{host_report, report_of, Same}
 use Rattle.harbour.specs.Events.{EventTaken, step_of}
-use Rattle.harbour.specs.declared.Room.{Room}
 use Rattle.harbour.specs.declared.report.Opened.{Opened}
 use Rattle.harbour.specs.declared.report.Report.{Report}
 
 -- ---- demand 1, of an opening: a room, or a numbered refusal and a room of which every number is 0 and every job outside
 module _ {bytes : List ℕ} {r : Opened} {room : Room} (said : OpensRoom bytes r (arrays_of room)) where
-  pub code-opens : (start : rules.Room) (rest : List ℕ) → opening bytes ≡ read start rest → (r ≡ opened_numbers 0 (length start.measures) (place_of bytes rest)) × (meaning room ≡ start) × Kept (arrays_of room)
-  code-opens start rest e = let m = opened-means bytes _ (arrays_of room) said.opens start rest e in (said.tells ∙ ap told_opening m.0, m.1, m.2)
+  -- of the reading that the bytes are, what is told and what is left
+  told-as : {x : Read rules.Room} → opening bytes ≡ x →
+      (r ≡ told_opening (as_opening bytes x)) × (arrays_of room ≡ empty_with (coefficients_of x) (values_of x) (told_opening (as_opening bytes x)).measures)
+  told-as {x} e =
+      let t = said.tells ∙ ap (λ y. told_opening (as_opening bytes y)) e in
+      (t, said.opens ∙ (λ i. empty_with (coefficients_of (e i)) (values_of (e i)) (t i).measures))
 
-  pub code-refuses-to-open : (k : ℕ) → opening bytes ≡ refused k → (r ≡ opened_numbers k 0 0) × (arrays_of room ≡ empty_with (replicate 128 (pos 0)) (replicate 8 (pos 0)) 0) × (meaning room ≡ no_room)
-  code-refuses-to-open k e = let m = refused-means bytes _ (arrays_of room) said.opens k e in (said.tells ∙ ap told_opening m.0, m.1, m.2)
+  pub code-opens : (start : rules.Room) (rest : List ℕ) → opening bytes ≡ read start rest →
+      (r ≡ opened_numbers 0 (length start.measures) (place_of bytes rest)) × (meaning room ≡ start) × Kept (arrays_of room)
+  code-opens start rest e =
+      let t = told-as e in
+      let a = t.1 ∙ (λ i. empty_with (coefficients_of (sym e i)) (values_of (sym e i)) (length start.measures)) in
+      let m = opened-means bytes (Ok (length start.measures, place_of bytes rest)) (arrays_of room) (sym (ap (as_opening bytes) e), a) start rest e in
+      (t.0, m.1, m.2)
+
+  pub code-refuses-to-open : (k : ℕ) → opening bytes ≡ refused k →
+      (r ≡ opened_numbers k 0 0) × (arrays_of room ≡ empty_with (replicate 128 (pos 0)) (replicate 8 (pos 0)) 0) × (meaning room ≡ no_room)
+  code-refuses-to-open k e = let t = told-as e in (t.0, t.1, ap room_of t.1 ∙ room-of-empty (replicate 128 (pos 0)) (replicate 8 (pos 0)) 0)
 
 -- ---- a run of the code
 -- `harbour_open` was given these bytes and accepted them: this is the room that it left
@@ -175,12 +190,14 @@ module _ {opened : List ℕ} {first room : Room} {first-tally tally : Tally} {ev
   code-relay = reached-relay (reached-by (λ room room' tally tally' bytes r t. t.room_after))
 
   -- each distinct waiting condition once, with exactly its jobs, and its alternatives once under their tag
-  pub code-index : Index (closed_slots room.alternatives room.atoms room.measure room.operator room.key) room.ticket room.entry room.high room.low room.places room.lengths
+  pub code-index : IsIndex (closed_of room.conditions) room.ticket room.index
   code-index = code-kept.sound.index
 
 -- ---- any two answers that the contracts allow are the same, number by number, but for the places of nodes inside their heaps
 pub one-opening : {bytes : List ℕ} {r s : Opened} {room room' : Room} → OpensRoom bytes r (arrays_of room) → OpensRoom bytes s (arrays_of room') → (r ≡ s) × (arrays_of room ≡ arrays_of room')
-one-opening a b = (a.tells ∙ sym b.tells, a.opens.1 ∙ sym b.opens.1)
+one-opening {bytes} a b =
+    let t = a.tells ∙ sym b.tells in
+    (t, a.opens ∙ (λ i. empty_with (coefficients_of (opening bytes)) (values_of (opening bytes)) (t i).measures) ∙ sym b.opens)
 
 pub one_answer : {room room' room'' : Room} {tally tally' tally'' : Tally} {bytes : List ℕ} {r s : Report} → EventTaken room room' tally tally' bytes r → EventTaken room room'' tally tally'' bytes s →
     (r ≡ s) × (tally' ≡ tally'') × Alike room' room''

@@ -9,12 +9,12 @@ use Rattle.rules.specs.Tally as steps
 use Rattle.fields.specs.Answers.{place_of}
 use Rattle.tally.specs.Added.{tally_of}
 use Rattle.tally.specs.declared.Tally.{Tally}
+use Rattle.room.specs.declared.room.Room.{Room}
 use Rattle.room.specs.Stores.{store_of, store_after}
 use Rattle.room.specs.Kept.{Kept}
 use Rattle.harbour.specs.Rooms.{arrays_of, meaning, one-room}
 use Rattle.harbour.specs.Reports.{host_report, report_of, Same, Reports}
 use Rattle.harbour.specs.Tallies.{noted_tally}
-use Rattle.harbour.specs.declared.Room.{Room}
 use Rattle.harbour.specs.declared.report.Report.{Report}
 
 -- the rules' step, given these bytes

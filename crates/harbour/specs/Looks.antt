@@ -1,27 +1,53 @@
 -- What a host sees of its room: of a room that came from an accepted opening and events, the rules' standings, the job inside and the values.
-use Rattle.std.specs.Prelude.{◌≡◌, refl, false, List, [], ◌∷◌, ◌⊎◌, ℕ, zero, suc, ◌+◌, ◌-◌, ◌<◌, ◌≤◌, eqb, get_or, length, if◌then◌else◌}
+use Rattle.std.specs.Prelude.{◌≡◌, refl, false, List, [], ◌∷◌, ◌⊎◌, ℕ, zero, suc, ◌+◌, ◌-◌, ◌<◌, ◌≤◌, eqb, get_or, length}
+use Rattle.std.specs.Prelude.{Option, Some, None, MatchOption, unwrap_or, if◌then◌else◌}
+use Rattle.std.specs.List.{AllWithin, HoldsAt}
 use Rattle.std.proofs.Common.{sym, ap, ◌∙◌, inl, inr, arith, eq-eqb, ne_eqb, eqb-true}
-use Rattle.rules.specs.Laws.Cases.{by_lt}
+use Rattle.rules.specs.Laws.Cases.{by_lt, by_eq}
 use Rattle.rules.specs.Condition.{Condition}
 use Rattle.rules.specs.Room.{Standing, outside, door, inside, waiting, called, standing}
 use Rattle.rules.specs.Room as rules
 use Rattle.rules.specs.Step.{occupied}
 use Rattle.rules.specs.Laws.In.{by_bool}
 use Rattle.condition.specs.Closes.{condition_in}
+use Rattle.room.specs.declared.room.Room.{Room}
 use Rattle.room.specs.Arrays.{standing_of, standing_at}
 use Rattle.room.specs.Kept.{Kept}
 use Rattle.condition.specs.From.{from_past}
 use Rattle.room.specs.Standings.{standing-is}
 use Rattle.room.specs.Occupied.{somebody, occupied-is}
 use Rattle.harbour.specs.Rooms.{arrays_of, meaning}
-use Rattle.harbour.specs.declared.Room.{Room}
 
 -- the first job inside of n from job j on, or 32
 abbrev pub inside_from : List ℕ → ℕ → ℕ → ℕ
 inside_from standings zero j = 32
 inside_from standings (suc n) j = if eqb (get_or standings j 0) 2 then j else inside_from standings n (suc j)
 
--- ---- as the code goes along
+-- ---- the answer of `harbour_inside`: the place of the first 2, or that there is none
+module _ (standings : List ℕ) where
+  abbrev NoneInside : ℕ → ℕ → Type 0
+  NoneInside = AllWithin (λ x. x ≡ 2 → ⊥) standings
+
+  none-inside : (n j : ℕ) → NoneInside j (j + n) → 32 ≡ inside_from standings n j
+  none-inside zero j h = refl
+  none-inside (suc n) j h =
+      rw (ne_eqb (get_or standings j 0) 2 (h j 0 (omega arith) (omega arith)))
+      (none-inside n (suc j) (λ k d a b. h k d (omega arith) (omega arith)))
+
+  first-inside : (n j i : ℕ) → j ≤ i → i < j + n → get_or standings i 0 ≡ 2 → NoneInside j i → i ≡ inside_from standings n j
+  first-inside zero j i a b e h = absurd (omega arith)
+  first-inside (suc n) j i a b e h =
+      by_eq j i (λ q. rw (eq-eqb (get_or standings j 0) 2 (ap (λ k. get_or standings k 0) q ∙ e)) (sym q))
+      (λ q. rw (ne_eqb (get_or standings j 0) 2 (h j 0 (omega arith) (omega (arith, q))))
+      (first-inside n (suc j) i (omega (arith, q)) (omega arith) e (λ k d l m. h k d (omega arith) m)))
+
+  pub inside-found : (r : Option ℕ) → length standings ≡ 32 →
+      MatchOption r (NoneInside 0 (length standings)) (λ i. (i < length standings) × HoldsAt (λ x. x ≡ 2) standings i × NoneInside 0 i) →
+      unwrap_or r 32 ≡ inside_from standings 32 0
+  inside-found (Some i) long h = first-inside 32 0 i (omega arith) (omega arith) (h.1 0) h.2
+  inside-found None long h = none-inside 32 0 (λ k d a b. h k d a (omega arith))
+
+-- ---- job by job
 module _ (standings : List ℕ) where
   abbrev pub inside_left : ℕ → ℕ
   inside_left i = inside_from standings (32 - i) i
@@ -72,7 +98,7 @@ module _ (room : Room) (k : Kept (arrays_of room)) where
       by_lt j 32 (λ h. sym (standing-coded (get_or room.standing j 0) (condition_in (arrays_of room).slots j) (get_or room.ticket j 0) (k.sound.codes j)) ∙ ap standing_code (sym (standing-is (arrays_of room) j h)))
       (λ h. sym (none-there 0 room.standing 32 j k.sound.sizes.standing h) ∙ ap standing_code (sym (from_past outside (standing_at (arrays_of room)) 32 0 j h)))
 
-  pub look-value : (i : ℕ) → get_or room.values i ≡ get_or (meaning room).values i
+  pub look-value : (i : ℕ) → get_or room.shared.values i ≡ get_or (meaning room).values i
   look-value i = refl
 
   pub look-ticket : room.next_ticket ≡ (meaning room).next_ticket
@@ -93,5 +119,6 @@ module _ (room : Room) (k : Kept (arrays_of room)) where
 
 -- Rooms that mean the same look the same.
 pub seen_alike : (room room' : Room) → Kept (arrays_of room) → Kept (arrays_of room') → meaning room ≡ meaning room' →
-    ((j : ℕ) → get_or room.standing j 0 ≡ get_or room'.standing j 0) × (room.values ≡ room'.values) × (room.next_ticket ≡ room'.next_ticket)
+    ((j : ℕ) → get_or room.standing j 0 ≡ get_or room'.standing j 0) × (room.shared.values ≡ room'.shared.values)
+    × (room.next_ticket ≡ room'.next_ticket)
 seen_alike room room' k k' e = (λ j. look-standing room k j ∙ ap (λ r. standing_code (standing r j)) e ∙ sym (look-standing room' k' j), ap (λ (r : rules.Room). r.values) e, ap (λ (r : rules.Room). r.next_ticket) e)

@@ -1,15 +1,16 @@
 // What an event reports to a host, as plain numbers, and what the tally makes of it.
-ghost use Rattle.std.specs.Prelude.{◌≡◌, ◌≤◌};
+ghost use Rattle.std.specs.Prelude.{◌≡◌};
 ghost use Rattle.rules.specs.Tally.{ones, backs};
-ghost use Rattle.room.specs.Reports.{outcome_of, job_in};
+ghost use Rattle.room.specs.Codes.{outcome_at, job_at};
 ghost use Rattle.event.specs.Answers.{PlainTaken};
+ghost use Rattle.harbour.specs.Openings.{told_opening};
 ghost use Rattle.harbour.specs.Reports.{told as told_of};
 ghost use Rattle.harbour.specs.Tallies.{noted_tally};
 
 use event::Taken;
-use tally::{Tally, added};
+use tally::Tally;
 
-// Outcomes: 0 done, 1 in, 2 waits, 3 on, 4 back, 5 refused, 6 none left.
+// Outcomes: 0 done, 1 in, 2 waits, 3 on, 4 back, 5 refused, 6 none left. Numbers for outcomes, jobs and refusals are the C interface.
 #[repr(C)]
 #[derive(Clone, Copy)]
 pub struct Report {
@@ -24,7 +25,7 @@ pub struct Report {
     pub taken: u64,
 }
 
-// The answer to an opening: the refusal, or 0 for a room; its measures; the bytes taken.
+// The answer to an opening: the refusal, or 0 for a room; its measures; the bytes taken. It is a number and no `Result`: the C interface.
 #[repr(C)]
 #[derive(Drop)]
 pub struct Opened {
@@ -33,65 +34,67 @@ pub struct Opened {
     pub taken: u64,
 }
 
-fn narrow(job: usize) -> u8
-    requires { job ≤ 32 }
-    ensures { result ≡ job }
-{
-    job as u8
+impl From<Result<(u64, usize), u8>> for Opened {
+    ghost from_gives = { λ answer opened. opened ≡ told_opening answer };
+
+    fn from(answer: Result<(u64, usize), u8>) -> Opened {
+        match answer {
+            Ok((measures, next)) => Opened {
+                refusal: 0,
+                measures,
+                taken: next as u64,
+            },
+            Err(number) => Opened {
+                refusal: number,
+                measures: 0,
+                taken: 0,
+            },
+        }
+    }
 }
 
-pub fn told(answer: Taken) -> Report
+// In C's numbers. No `From`, since it asks that a called job is one of the 32.
+pub fn told(answer: Option<Taken>) -> Report
     requires { PlainTaken answer }
     ensures { result ≡ told_of answer }
 {
-    match answer {
-        Taken::Accepted(outcome, job, count, next) => {
-            let called = narrow(job);
-            return Report {
-                outcome: outcome,
-                job: called,
-                refusal: 0,
-                count: count as u64,
-                taken: next as u64,
-            };
-        }
-        Taken::Refused(refusal, next) => {
-            return Report {
-                outcome: 5,
-                job: 32,
-                refusal: refusal,
-                count: 0,
-                taken: next as u64,
-            };
-        }
-        Taken::Nothing => {
-            return Report {
-                outcome: 6,
-                job: 32,
-                refusal: 0,
-                count: 0,
-                taken: 0,
-            };
-        }
+    let Some(taken) = answer else {
+        return Report {
+            outcome: 6,
+            job: 32,
+            refusal: 0,
+            count: 0,
+            taken: 0,
+        };
+    };
+    match taken.report {
+        Ok(accepted) => Report {
+            outcome: u8::from(accepted.outcome),
+            job: accepted.called.unwrap_or(32) as u8,
+            refusal: 0,
+            count: accepted.evaluated as u64,
+            taken: taken.next as u64,
+        },
+        Err(refusal) => Report {
+            outcome: 5,
+            job: 32,
+            refusal: u8::from(refusal),
+            count: 0,
+            taken: taken.next as u64,
+        },
     }
 }
 
 fn calls(job: u8) -> u64
-    ensures { result ≡ ones (job_in job) }
+    ensures { result ≡ ones (job_at job) }
 {
-    if job < 32 {
-        return 1;
-    }
-    0
+    u64::from(job < 32)
 }
 
 fn sent_back(outcome: u8) -> u64
-    ensures { result ≡ backs (outcome_of outcome) }
+    ensures { result ≡ backs (outcome_at outcome) }
 {
-    if outcome == 4 {
-        return 1;
-    }
-    0
+    u64::from(outcome == 4)
 }
 
 // A refused event, and none left, count nothing.
@@ -103,5 +106,5 @@ pub fn noted(tally: Tally, report: Report) -> Tally
     }
     let called = calls(report.job);
     let back = sent_back(report.outcome);
-    added(tally, called, report.count, back)
+    tally.added(called, report.count, back)
 }

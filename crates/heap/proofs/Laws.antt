@@ -1,10 +1,4 @@
 -- The laws that the proofs of the code cite, by function.
-use Rattle.nodes.specs.Holes.{moved_none}
-use Rattle.nodes.specs.Rises.{rises-test, rises-none, rises-pos}
-use Rattle.heap.specs.Sinks.{next-none}
+use Rattle.heap.specs.Sinks.{next-none, next-go, next-stop}
 
-pub ruleset above_laws = (rises-test, rises-none)
-
-pub ruleset rise_laws = (moved_none, rises-pos)
-
-pub ruleset next_laws = (next-none)
+pub ruleset next_laws = (next-none, next-go, next-stop)

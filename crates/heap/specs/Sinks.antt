@@ -1,4 +1,5 @@
 -- A node sinks into a hole while a child ranks before it; and a node that leaves is replaced by the last, which rises or sinks from there.
+use Rattle.std.specs.Prelude.{Option, Some, None, MatchOption}
 use Rattle.std.specs.Prelude.{◌≡◌, refl, Bool, true, false, List, ℕ, ◌+◌, ◌*◌, ◌<◌, ◌≤◌, get_or, set, length, ltb}
 use Rattle.std.proofs.Common.{sym, ◌∙◌}
 use Rattle.std.proofs.Math.Path.{ap}
@@ -18,12 +19,9 @@ pub record LeastChild (v : ℕ → ℕ) (n i c : ℕ) : Type 0 where
   pub pos : 0 < c
   pub least : Kids above v n i (v c)
 
--- where the hole at i goes when x sinks: r, or nowhere where r is i
-pub record Next (v : ℕ → ℕ) (n i x r : ℕ) : Type 0 where
-  pub down : i ≤ r
-  pub below : r < n
-  pub stop : r ≡ i → Kids above v n i x
-  pub go : (r ≡ i → ⊥) → LeastChild v n i r × (v r ≤ x)
+-- where the hole at i goes when x sinks: to the child that ranks first, or nowhere
+abbrev pub Next : (ℕ → ℕ) → ℕ → ℕ → ℕ → Option ℕ → Type 0
+Next v n i x r = MatchOption r (Kids above v n i x) (λ c. LeastChild v n i c × (v c ≤ x))
 
 module _ (v : ℕ → ℕ) (n i : ℕ) where
   two-kids : (x : ℕ) → x ≤ v (2 * i + 1) → (2 * i + 2 < n → x ≤ v (2 * i + 2)) → Kids above v n i x
@@ -43,16 +41,16 @@ module _ (v : ℕ → ℕ) (n i : ℕ) where
       let h : v (2 * i + 1) ≤ v (2 * i + 2) = ltb-false _ _ (sym e ∙ f) in
       record { below = omega arith; child = omega arith; pos = omega arith; least = two-kids _ (omega arith) (λ g. h) }
 
-  pub next-none : (x : ℕ) → i < n → n ≤ 2 * i + 1 → Next v n i x i
+  pub next-none : (x : ℕ) → n ≤ 2 * i + 1 → Next v n i x None
   unfolding Kids
-  next-none x p h = record { down = omega arith; below = p; stop = λ e j a b d. absurd (omega arith); go = λ d. absurd (d refl) }
+  next-none x h j a b d = absurd (omega arith)
 
-  pub next-go : (x c : ℕ) {t : Bool} → LeastChild v n i c → t ≡ ltb (v c) x → t ≡ true → Next v n i x c
-  next-go x c k e f = record { down = omega (arith, k.child, k.pos); below = k.below; stop = λ z. absurd (omega (arith, k.child, k.pos, z)); go = λ p. (k, omega (arith, ltb-true (v c) x (sym e ∙ f))) }
+  pub next-go : (x c : ℕ) {t : Bool} → LeastChild v n i c → t ≡ ltb (v c) x → t ≡ true → Next v n i x (Some c)
+  next-go x c k e f = (k, omega (arith, ltb-true (v c) x (sym e ∙ f)))
 
-  pub next-stop : (x c : ℕ) {t : Bool} → i < n → LeastChild v n i c → t ≡ ltb (v c) x → t ≡ false → Next v n i x i
+  pub next-stop : (x c : ℕ) {t : Bool} → LeastChild v n i c → t ≡ ltb (v c) x → t ≡ false → Next v n i x None
   unfolding Kids
-  next-stop x c p k e f = record { down = omega arith; below = p; stop = λ z j a b d. omega (arith, ltb-false (v c) x (sym e ∙ f), k.least j a b d); go = λ d. absurd (d refl) }
+  next-stop x c k e f j a b d = omega (arith, ltb-false (v c) x (sym e ∙ f), k.least j a b d)
 
 -- a hole that x may sink from
 abbrev pub Down : ℕ → ℕ → (ℕ → ℕ) → ℕ → Type 0
@@ -61,18 +59,18 @@ Down n x v i = Hole above v n i × From above v i x
 abbrev pub Sunk : (ℕ → ℕ) → List ℕ → List ℕ → ℕ → ℕ → ℕ → Type 0
 Sunk rank l m n k x = Filled rank (Down n (rank x)) (InOrder above n) l m n k x
 
-module _ (rank : ℕ → ℕ) (l m : List ℕ) (n k i x c : ℕ) (f : n ≤ length l) (r : Moved rank (Down n (rank x)) l m n k i) (s : Next (rank_at rank m) n i (rank x) c) where
-  pub sink-more : (c ≡ i → ⊥) → Moved rank (Down n (rank x)) l (set m i (get_or m c 0)) n k c
+module _ (rank : ℕ → ℕ) (l m : List ℕ) (n k i x : ℕ) (f : n ≤ length l) (r : Moved rank (Down n (rank x)) l m n k i) where
+  pub sink-more : {c : ℕ} → LeastChild (rank_at rank m) n i c × (rank_at rank m c ≤ rank x) →
+      Moved rank (Down n (rank x)) l (set m i (get_or m c 0)) n k c
   unfolding From
-  sink-more d =
-      let g : LeastChild (rank_at rank m) n i c × (rank_at rank m c ≤ rank x) = s.go d in
-      moved_more rank (Down n (rank x)) l m n k i c f r g.0.below d
+  sink-more {c} g =
+      moved_more rank (Down n (rank x)) l m n k i c f r g.0.below (λ z. omega (arith, g.0.child, g.0.pos, z))
       (λ w a q. (hole-down above above-lt (rank_at rank m) w n i a.else q.0 c g.0.pos g.0.below g.0.child g.0.least a.new, λ p. omega (arith, ap w g.0.child, a.new, g.1)))
 
-  pub sink-end : c ≡ i → Sunk rank l (set m i x) n k x
-  sink-end d =
+  pub sink-end : Kids above (rank_at rank m) n i (rank x) → Sunk rank l (set m i x) n k x
+  sink-end stop =
       filled rank (Down n (rank x)) l m n k i (InOrder above n) x f r
-      (λ w a q. hole-end above above-lt (rank_at rank m) w n i a.else q.0 (rank x) q.1 (s.stop d) a.new)
+      (λ w a q. hole-end above above-lt (rank_at rank m) w n i a.else q.0 (rank x) q.1 stop a.new)
 
 pub removed-last : (rank : ℕ → ℕ) (l : List ℕ) (n k : ℕ) → n ≡ k → Removed above rank l l n k
 unfolding Ordered

@@ -6,7 +6,7 @@ use Rattle.nodes.specs.Counts.{count, is, count-find, count_same}
 use Rattle.nodes.specs.Order.{Ordered}
 use Rattle.nodes.specs.Holes.{rank_at}
 use Rattle.nodes.specs.Rises.{Pushed, Removed}
-use Rattle.nodes.specs.Finds.{FirstPlace, none-counted}
+use Rattle.nodes.specs.Finds.{FirstPlace, none-counted, place-among}
 use Rattle.homes.specs.Orders.{over, over-lt}
 use Rattle.homes.specs.Regions.{region, put_back, back_long, region-here, region-other}
 
@@ -69,6 +69,24 @@ module _ (l lengths : List ℕ) (home x : ℕ) (held : 0 < times_in_home l lengt
       let n = get_or lengths home 0 in
       let same : n - 1 + 1 ≡ n = omega (arith, not-empty) in
       by_lt i n (λ q. omega arith) (λ q. absurd (none-counted (region l home) n x i (rw (size, same) at f) q held))
+
+  -- the search for x looks at the places below the length, and finds it there
+  module _ (k : ℕ) (fits : length l ≡ 4352) (one : home < 34) (most : get_or lengths home 0 ≤ 128) (size : k ≡ 128) where
+    abbrev pub searched : List ℕ
+    searched = take (get_or lengths home 0 - 1 + 1) (take k (drop (home * 128) l))
+
+    within : get_or lengths home 0 - 1 + 1 ≤ length (take k (drop (home * 128) l))
+    within = omega (arith, length-take-le k (drop (home * 128) l) (omega (arith, length-drop (home * 128) l)))
+
+    pub found-place : (i : ℕ) → FirstPlace searched (length searched) x i →
+        FirstPlace (take k (drop (home * 128) l)) (get_or lengths home 0 - 1 + 1) x i
+    found-place i f = place-among (take k (drop (home * 128) l)) (get_or lengths home 0 - 1 + 1) x i within f
+
+    pub found-below : (i : ℕ) → FirstPlace searched (length searched) x i → i ≤ get_or lengths home 0 - 1
+    found-below i f = has-place k i size (found-place i f)
+
+    pub always-found : FirstPlace searched (length searched) x (length searched) → ⊥
+    always-found f = absurd (omega (arith, found-below _ f, length-take-le _ (take k (drop (home * 128) l)) within))
 
 -- p is what a home's places, k of them, hold afterwards
 module _ (rank : ℕ → ℕ) (l lengths p : List ℕ) (home x k : ℕ) (fits : length l ≡ 4352) (all : length lengths ≡ 34) (one : home < 34) (size : k ≡ 128) where

@@ -1,86 +1,79 @@
-// The homes of nodes, over one lent slice. Homes 0 to 31 are heaps, two for each measure: one of the alternatives tagged with > or ≥, one of those
-// tagged with < or ≤. Home 32 is the row of those tagged with =, home 33 the row of those without a tag. A home has 128 places, more than a room
-// has nodes; `lengths` says how many of them hold one, and the others hold 0.
+// The homes of nodes. Homes 0 to 31 are heaps, two for each measure: one of the alternatives tagged with > or ≥, one of those tagged with
+// < or ≤. Home 32 is the row of those tagged with =, home 33 the row of those without a tag: numbers, since one array holds them all
+// (docs/DECISIONS.md). A home has 128 places, more than a room has nodes; `lengths` says how many of them hold one, and the others hold 0.
 #![tactic(auto)]
 
-ghost use Rattle.std.specs.Prelude.{◌≡◌, ◌<◌, ◌≤◌, get_or, length};
-ghost use Rattle.nodes.specs.Ranks.{rank};
+ghost use Rattle.std.specs.Prelude.{◌<◌, ◌≤◌, get_or, length};
+ghost use Rattle.nodes.specs.Structs.{rank_in};
 ghost use Rattle.nodes.specs.Rises.{Pushed, Removed};
 ghost use Rattle.homes.specs.Orders.{over};
 ghost use Rattle.homes.specs.Moves.{times_in_home, Put, Cut};
 
-use nodes::place_of;
+use nodes::{Ranks, place_of};
+
+// Lengths beside the places and no slices or vectors: no heap, and C's room has them so.
+#[repr(C)]
+#[derive(Drop)]
+pub struct Homes {
+    pub places: [u8; 4352],
+    pub lengths: [u8; 34],
+}
 
 // One node more among the first n places of a home: x.
-fn set_in(places: &mut [u8], high: &[u64; 128], low: &[u64; 128], home: usize, n: usize, x: u8)
+fn set_in(places: &mut [u8], ranks: &Ranks, home: usize, n: usize, x: u8)
     requires { n < length places.old }
-    ensures { Pushed (over home) (rank high.now low.now) places.old places.new n x }
+    ensures { Pushed (over home) (rank_in ranks.now) places.old places.new n x }
 {
     if home < 32 {
-        heap::push(places, high, low, n, x);
-        return;
+        heap::push(places, ranks, n, x);
+    } else {
+        rows::insert(places, ranks, n, x);
     }
-    rows::insert(places, high, low, n, x);
 }
 
 // The node at place k leaves n + 1 nodes of a home.
-fn take_out(places: &mut [u8], high: &[u64; 128], low: &[u64; 128], home: usize, n: usize, k: usize)
+fn take_out(places: &mut [u8], ranks: &Ranks, home: usize, n: usize, k: usize)
     requires fact_1 { k ≤ n }
     requires fact_2 { n < length places.old }
-    ensures { Removed (over home) (rank high.now low.now) places.old places.new n k }
+    ensures { Removed (over home) (rank_in ranks.now) places.old places.new n k }
 {
     if home < 32 {
-        heap::remove(places, high, low, n, k);
-        return;
+        heap::remove(places, ranks, n, k);
+    } else {
+        rows::remove(places, n, k);
     }
-    rows::remove(places, n, k);
 }
 
-// Node x into a home.
-pub fn put(
-    places: &mut [u8],
-    lengths: &mut [u8],
-    high: &[u64; 128],
-    low: &[u64; 128],
-    home: usize,
-    x: u8,
-)
-    requires fact_1 { length places.old ≡ 4352 }
-    requires fact_2 { length lengths.old ≡ 34 }
-    requires fact_3 { home < 34 }
-    requires fact_4 { get_or lengths.old home 0 < 128 }
-    ensures { Put (rank high.now low.now) places.old lengths.old places.new lengths.new home x }
-{
-    let start = home * 128;
-    let end = start + 128;
-    let n = lengths[home];
-    set_in(&mut places[start..end], high, low, home, n as usize, x);
-    lengths[home] = n + 1;
-}
+impl Homes {
+    // Node x into a home.
+    pub fn put(&mut self, ranks: &Ranks, home: usize, x: u8)
+        requires fact_1 { home < 34 }
+        requires fact_2 { get_or self.old.lengths home 0 < 128 }
+        ensures { Put (rank_in ranks.now) self.old.places self.old.lengths self.new.places self.new.lengths home x }
+    {
+        let start = home * 128;
+        let n = self.lengths[home];
+        let part = &mut self.places[start..start + 128];
+        set_in(part, ranks, home, n as usize, x);
+        self.lengths[home] = n + 1;
+    }
 
-// Node x, which a home holds, out of it. The place it frees is cleared.
-pub fn cut(
-    places: &mut [u8],
-    lengths: &mut [u8],
-    high: &[u64; 128],
-    low: &[u64; 128],
-    home: usize,
-    x: u8,
-)
-    requires fact_1 { length places.old ≡ 4352 }
-    requires fact_2 { length lengths.old ≡ 34 }
-    requires fact_3 { home < 34 }
-    requires fact_4 { get_or lengths.old home 0 ≤ 128 }
-    requires fact_5 { 0 < times_in_home places.old lengths.old home x }
-    ensures { Cut (rank high.now low.now) places.old lengths.old places.new lengths.new home x }
-{
-    let start = home * 128;
-    let end = start + 128;
-    let left = lengths[home] - 1;
-    let part = &mut places[start..end];
-    let n = left as usize;
-    let k = place_of(part, n + 1, x);
-    take_out(part, high, low, home, n, k);
-    part[n] = 0;
-    lengths[home] = left;
+    // Node x, which a home holds, out of it. The place it frees is cleared.
+    pub fn cut(&mut self, ranks: &Ranks, home: usize, x: u8)
+        requires fact_1 { home < 34 }
+        requires fact_2 { get_or self.old.lengths home 0 ≤ 128 }
+        requires fact_3 { 0 < times_in_home self.old.places self.old.lengths home x }
+        ensures { Cut (rank_in ranks.now) self.old.places self.old.lengths self.new.places self.new.lengths home x }
+    {
+        let start = home * 128;
+        let left = self.lengths[home] - 1;
+        let n = left as usize;
+        let part = &mut self.places[start..start + 128];
+        let Some(k) = place_of(&part[..n + 1], x) else {
+            unreachable!();
+        };
+        take_out(part, ranks, home, n, k);
+        part[n] = 0;
+        self.lengths[home] = left;
+    }
 }

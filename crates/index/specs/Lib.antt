@@ -15,3 +15,4 @@ pub mod Apart
 pub mod Rows
 pub mod Unique
 pub mod Elsewhere
+pub mod Structs

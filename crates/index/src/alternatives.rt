@@ -1,81 +1,49 @@
 // The nodes of a job's alternatives, each in the home of its tag.
-ghost use Rattle.std.specs.Prelude.{◌≡◌, true, ℕ, ◌<◌, ◌≤◌, min, get_or, length};
-ghost use Rattle.nodes.specs.Ranks.{rank};
+ghost use Rattle.std.specs.Prelude.{◌≡◌, true, ℕ, ◌<◌, ◌≤◌, get_or};
+ghost use Rattle.nodes.specs.Structs.{rank_in};
 ghost use Rattle.homes.specs.Moves.{times_in_home};
 ghost use Rattle.index.specs.Mine.{mine};
-ghost use Rattle.index.specs.Nodes.{home_of, NodesPut, NodesCut};
+ghost use Rattle.index.specs.Nodes.{NodesPut, NodesCut};
+ghost use Rattle.index.specs.Structs.{home_by, count_in};
 
+use condition::slots::Conditions;
 use condition::truth::count_of;
 use filing::home_of;
+use homes::Homes;
+use nodes::Ranks;
 
-fn narrow(x: usize) -> u8
-    requires { x < 256 }
-    ensures { result ≡ x }
+// A job's nodes into their homes. This and the next are not one function over a closure: what they ask and promise differs, and each is
+// four lines.
+pub fn put_nodes(homes: &mut Homes, ranks: &Ranks, conditions: &Conditions, job: usize)
+    requires job_bound_1 { job < 32 }
+    requires job_bound_2 { ((k : ℕ) → get_or conditions.now.measure k 0 < 16) }
+    requires by_index { (h : ℕ) → h < 34 → get_or homes.old.lengths h 0 ≤ 124 }
+    ensures { NodesPut (rank_in ranks.now) (home_by conditions.now) job (count_in conditions.now job)
+        homes.old.places homes.old.lengths homes.new.places homes.new.lengths }
 {
-    x as u8
-}
-
-// A job's nodes into their homes.
-pub fn put_nodes(
-    places: &mut [u8],
-    lengths: &mut [u8],
-    high: &[u64; 128],
-    low: &[u64; 128],
-    alternatives: &[u8; 32],
-    atoms: &[u8; 128],
-    measure: &[u8; 512],
-    operator: &[u8; 512],
-    job: usize,
-)
-    requires places_len_1 { length places.old ≡ 4352 }
-    requires places_len_2 { length lengths.old ≡ 34 }
-    requires places_len_3 { job < 32 }
-    requires places_len_4 { ((k : ℕ) → get_or measure.now k 0 < 16) }
-    requires by_index { (h : ℕ) → h < 34 → get_or lengths.old h 0 ≤ 124 }
-    ensures { NodesPut (rank high.now low.now) (home_of atoms.now measure.now operator.now) job (min (get_or alternatives.now job 0) 4)
-        places.old lengths.old places.new lengths.new }
-{
-    let count = count_of(alternatives[job]);
+    // Lent whole, so that a proof knows of 34 homes; so below.
+    let _all = &homes.lengths;
     let first = job * 4;
-    let mut i: usize = 0;
-    while i < count {
+    for i in 0..count_of(conditions.alternatives[job]) {
         let node = first + i;
-        let to = home_of(atoms, measure, operator, node);
-        let x = narrow(node);
-        homes::put(places, lengths, high, low, to, x);
-        i += 1;
+        homes.put(ranks, home_of(conditions, node), node as u8);
     }
 }
 
 // A job's nodes out of their homes, which hold them.
-pub fn cut_nodes(
-    places: &mut [u8],
-    lengths: &mut [u8],
-    high: &[u64; 128],
-    low: &[u64; 128],
-    alternatives: &[u8; 32],
-    atoms: &[u8; 128],
-    measure: &[u8; 512],
-    operator: &[u8; 512],
-    job: usize,
-)
-    requires places_len_1 { length places.old ≡ 4352 }
-    requires places_len_2 { length lengths.old ≡ 34 }
-    requires places_len_3 { job < 32 }
-    requires places_len_4 { ((k : ℕ) → get_or measure.now k 0 < 16) }
-    requires by_index { (h : ℕ) → h < 34 → get_or lengths.old h 0 ≤ 128 }
-    requires by_index_2 { (x : ℕ) → mine job (min (get_or alternatives.now job 0) 4) x ≡ true → 0 < times_in_home places.old lengths.old (home_of atoms.now measure.now operator.now x) x }
-    ensures { NodesCut (rank high.now low.now) (home_of atoms.now measure.now operator.now) job (min (get_or alternatives.now job 0) 4)
-        places.old lengths.old places.new lengths.new }
+pub fn cut_nodes(homes: &mut Homes, ranks: &Ranks, conditions: &Conditions, job: usize)
+    requires job_bound_1 { job < 32 }
+    requires job_bound_2 { ((k : ℕ) → get_or conditions.now.measure k 0 < 16) }
+    requires by_index { (h : ℕ) → h < 34 → get_or homes.old.lengths h 0 ≤ 128 }
+    requires by_index_2 { (x : ℕ) → mine job (count_in conditions.now job) x ≡ true →
+        0 < times_in_home homes.old.places homes.old.lengths (home_by conditions.now x) x }
+    ensures { NodesCut (rank_in ranks.now) (home_by conditions.now) job (count_in conditions.now job)
+        homes.old.places homes.old.lengths homes.new.places homes.new.lengths }
 {
-    let count = count_of(alternatives[job]);
+    let _all = &homes.lengths;
     let first = job * 4;
-    let mut i: usize = 0;
-    while i < count {
+    for i in 0..count_of(conditions.alternatives[job]) {
         let node = first + i;
-        let from = home_of(atoms, measure, operator, node);
-        let x = narrow(node);
-        homes::cut(places, lengths, high, low, from, x);
-        i += 1;
+        homes.cut(ranks, home_of(conditions, node), node as u8);
     }
 }

@@ -1,88 +1,47 @@
 // The lines of the events of a stream, one after the other up to the last line.
-ghost use Rattle.condition.specs.Closing.{closed_slots};
-ghost use Rattle.room.specs.Arrays.{arrays};
+ghost use Rattle.std.specs.Prelude.{◌≡◌, leb};
+ghost use Rattle.fields.specs.Refusals.{refusal_number};
 ghost use Rattle.room.specs.Kept.{Kept};
+ghost use Rattle.room.specs.Rooms.{arrays_of};
 ghost use Rattle.listing.specs.Output.{output, Writes};
 ghost use Rattle.listing.specs.Turns.{lines_from};
 
 use crate::line::{put_accepted, put_end, put_refused};
-use event::{Taken, event};
+use event::event;
+use fields::refusal::Refusal;
+use room::room::Room;
+
+// Refused with 1 to 4, the bytes were no event, so nothing after them can be read.
+fn is_last(refusal: Refusal) -> bool
+    ensures { result ≡ leb (refusal_number refusal) 4 }
+{
+    u8::from(refusal) <= 4
+}
 
 // The events stand in the input from `from` on.
-pub fn write_events(
-    out: &mut [u8],
-    values: &mut [i64; 8],
-    standing: &mut [u8; 32],
-    ticket: &mut [u32; 32],
-    alternatives: &mut [u8; 32],
-    atoms: &mut [u8; 128],
-    measure: &mut [u8; 512],
-    operator: &mut [u8; 512],
-    key: &mut [i64; 512],
-    entry: &mut [u8; 32],
-    high: &mut [u64; 128],
-    low: &mut [u64; 128],
-    places: &mut [u8],
-    lengths: &mut [u8],
-    next_ticket: &mut u32,
-    coefficients: &[i64; 128],
-    measures: usize,
-    input: &[u8],
-    from: usize,
-    at: usize,
-) -> usize
-    requires { Kept (arrays coefficients.now values.old standing.old ticket.old (closed_slots alternatives.old atoms.old measure.old operator.old key.old)
-        entry.old high.old low.old places.old lengths.old measures next_ticket.old) }
-    ensures { Writes (output out.old at) (output out.new result)
-        (lines_from input.now from 1 0 (arrays coefficients.now values.old standing.old ticket.old
-        (closed_slots alternatives.old atoms.old measure.old operator.old key.old)
-        entry.old high.old low.old places.old lengths.old measures next_ticket.old)) }
+pub fn write_events(out: &mut [u8], room: &mut Room, input: &[u8], from: usize, at: usize) -> usize
+    requires { Kept (arrays_of room.old) }
+    ensures { Writes (output out.old at) (output out.new result) (lines_from input.now from 1 0 (arrays_of room.old)) }
 {
     let mut place = from;
     let mut next = at;
     let mut number: usize = 1;
     let mut before: usize = 0;
-    loop {
-        let taken = event(
-            values,
-            standing,
-            ticket,
-            alternatives,
-            atoms,
-            measure,
-            operator,
-            key,
-            entry,
-            high,
-            low,
-            places,
-            lengths,
-            next_ticket,
-            coefficients,
-            measures,
-            input,
-            place,
-        );
-        match taken {
-            Taken::Accepted(outcome, job, count, after) => {
-                next = put_accepted(out, next, number, outcome, job, count);
-                number += 1;
+    while let Some(taken) = event(room, input, place) {
+        match taken.report {
+            Ok(accepted) => {
+                next = put_accepted(out, next, number, accepted);
                 before += 1;
-                place = after;
-                continue;
             }
-            Taken::Refused(refusal, after) => {
+            Err(refusal) => {
                 next = put_refused(out, next, number, refusal);
-                if refusal <= 4 {
-                    return put_end(out, next, before);
+                if is_last(refusal) {
+                    break;
                 }
-                number += 1;
-                place = after;
-                continue;
-            }
-            Taken::Nothing => {
-                return put_end(out, next, before);
             }
         }
+        number += 1;
+        place = taken.next;
     }
+    put_end(out, next, before)
 }

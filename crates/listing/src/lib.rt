@@ -6,8 +6,9 @@ ghost use Rattle.rules.specs.Listing.{listing as listing_of};
 ghost use Rattle.listing.specs.Bound.{Front};
 ghost use Rattle.listing.specs.Output.{filled};
 
-use crate::put::put_text;
+use crate::line::put_refusal;
 use crate::stream::write_stream;
+use fields::refusal::Refusal;
 
 mod events;
 mod line;
@@ -19,7 +20,7 @@ pub fn listing(out: &mut [u8], input: &[u8]) -> usize
     ensures { (out.new ≡ filled out.old (listing_of input.now)) × (result ≡ min (length out.old) (length (listing_of input.now))) }
 {
     if 65536 < input.len() {
-        return put_text(out, 0, b"refused 8\n");
+        return put_refusal(out, 0, b"refused ", Refusal::TooLong);
     }
     write_stream(out, input)
 }
@@ -29,6 +30,5 @@ pub fn whole_listing(out: &mut [u8; 655360], input: &[u8]) -> usize
     ensures out_after { (out.new ≡ listing_of input.now ++ drop result out.old) × (result ≡ length (listing_of input.now)) }
     ensures front { Front result out.new }
 {
-    let _all = &out[..];
     listing(out, input)
 }

@@ -1,39 +1,36 @@
 // The lines of a listing.
 ghost use Rattle.std.specs.Prelude.{[], ◌++◌};
 ghost use Rattle.rules.specs.Listing.{decimal, line};
+ghost use Rattle.fields.specs.Refusals.{refusal_number};
 ghost use Rattle.room.specs.Reports.{outcome_of, job_in};
 ghost use Rattle.listing.specs.Output.{output, Writes};
-ghost use Rattle.listing.specs.Lines.{outcome_text, job_text, accepted_line, refused_line, end_line};
+ghost use Rattle.listing.specs.Lines.{outcome_text, job_text, line_of, refused_line, end_line};
 
 use crate::put::{put, put_decimal, put_text};
+use fields::refusal::Refusal;
+use room::report::{Accepted, Outcome};
 
 // The outcome's word, with a space before and after it.
-fn put_outcome(out: &mut [u8], at: usize, outcome: u8) -> usize
+fn put_outcome(out: &mut [u8], at: usize, outcome: Outcome) -> usize
     ensures { Writes (output out.old at) (output out.new result) (outcome_text (outcome_of outcome)) }
 {
-    if outcome == 1 {
-        return put_text(out, at, b" in ");
+    match outcome {
+        Outcome::Done => put_text(out, at, b" done "),
+        Outcome::In => put_text(out, at, b" in "),
+        Outcome::Waits => put_text(out, at, b" waits "),
+        Outcome::On => put_text(out, at, b" on "),
+        Outcome::Back => put_text(out, at, b" back "),
     }
-    if outcome == 2 {
-        return put_text(out, at, b" waits ");
-    }
-    if outcome == 3 {
-        return put_text(out, at, b" on ");
-    }
-    if outcome == 4 {
-        return put_text(out, at, b" back ");
-    }
-    put_text(out, at, b" done ")
 }
 
 // The called job, or `-`.
-fn put_job(out: &mut [u8], at: usize, job: usize) -> usize
-    ensures { Writes (output out.old at) (output out.new result) (job_text (job_in job)) }
+fn put_job(out: &mut [u8], at: usize, called: Option<usize>) -> usize
+    ensures { Writes (output out.old at) (output out.new result) (job_text (job_in called)) }
 {
-    if job < 32 {
-        return put_decimal(out, at, job);
+    match called {
+        Some(job) => put_decimal(out, at, job),
+        None => put(out, at, b'-'),
     }
-    put(out, at, b'-')
 }
 
 // A line of some words and a number.
@@ -45,27 +42,27 @@ pub fn put_line(out: &mut [u8], at: usize, words: &[u8], n: usize) -> usize
     put(out, after_number, b'\n')
 }
 
-pub fn put_accepted(
-    out: &mut [u8],
-    at: usize,
-    number: usize,
-    outcome: u8,
-    job: usize,
-    count: usize,
-) -> usize
-    ensures { Writes (output out.old at) (output out.new result) (accepted_line number (outcome_of outcome) (job_in job) count) }
+// The same with a refusal's number.
+pub fn put_refusal(out: &mut [u8], at: usize, words: &[u8], refusal: Refusal) -> usize
+    ensures { Writes (output out.old at) (output out.new result) (line (words.now ++ decimal (refusal_number refusal)) []) }
 {
-    let after_number = put_decimal(out, at, number);
-    let after_outcome = put_outcome(out, after_number, outcome);
-    let after_job = put_job(out, after_outcome, job);
-    put_line(out, after_job, b" ", count)
+    put_line(out, at, words, usize::from(u8::from(refusal)))
 }
 
-pub fn put_refused(out: &mut [u8], at: usize, number: usize, refusal: u8) -> usize
-    ensures { Writes (output out.old at) (output out.new result) (refused_line number refusal) }
+pub fn put_accepted(out: &mut [u8], at: usize, number: usize, accepted: Accepted) -> usize
+    ensures { Writes (output out.old at) (output out.new result) (line_of number accepted) }
 {
     let after_number = put_decimal(out, at, number);
-    put_line(out, after_number, b" refused ", refusal as usize)
+    let after_outcome = put_outcome(out, after_number, accepted.outcome);
+    let after_job = put_job(out, after_outcome, accepted.called);
+    put_line(out, after_job, b" ", accepted.evaluated)
+}
+
+pub fn put_refused(out: &mut [u8], at: usize, number: usize, refusal: Refusal) -> usize
+    ensures { Writes (output out.old at) (output out.new result) (refused_line number (refusal_number refusal)) }
+{
+    let after_number = put_decimal(out, at, number);
+    put_refusal(out, after_number, b" refused ", refusal)
 }
 
 pub fn put_end(out: &mut [u8], at: usize, before: usize) -> usize

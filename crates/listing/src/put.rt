@@ -1,9 +1,11 @@
-// Bytes, texts and numbers, one after the other into a lent buffer and cut at its end.
+// Bytes, texts and numbers, one after the other into a lent buffer and cut at its end. These are functions of their own, and not `write!`:
+// a buffer that is too short is no error here.
 ghost use Rattle.std.specs.Prelude.{[], ◌∷◌};
 ghost use Rattle.rules.specs.Listing.{decimal};
 ghost use Rattle.listing.specs.Output.{output, Writes};
 
 // The place after the byte, or the same place at the buffer's end.
+#[tactic(auto, unfolding(crate::specs::Output::puts))]
 pub fn put(out: &mut [u8], at: usize, byte: u8) -> usize
     ensures { Writes (output out.old at) (output out.new result) (byte ∷ []) }
 {
@@ -14,22 +16,22 @@ pub fn put(out: &mut [u8], at: usize, byte: u8) -> usize
     at
 }
 
+#[tactic(auto, unfolding(crate::specs::Output::puts))]
 pub fn put_text(out: &mut [u8], at: usize, text: &[u8]) -> usize
     ensures { Writes (output out.old at) (output out.new result) text.now }
 {
     let mut next = at;
-    let mut i = 0;
-    while i < text.len() {
-        next = put(out, next, text[i]);
-        i += 1;
+    for byte in text {
+        next = put(out, next, *byte);
     }
     next
 }
 
+// A call for each digit, the highest first, so that no digit waits in an array of its own.
 pub fn put_decimal(out: &mut [u8], at: usize, n: usize) -> usize
     ensures { Writes (output out.old at) (output out.new result) (decimal n) }
 {
-    let digit = (48 + n % 10) as u8;
+    let digit = b'0' + (n % 10) as u8;
     if n < 10 {
         return put(out, at, digit);
     }

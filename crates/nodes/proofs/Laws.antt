@@ -1,7 +1,7 @@
 -- The laws that the proofs of the code cite, by function.
-use Rattle.nodes.specs.Ranks.{two-lt, two-gt, two-eq}
-use Rattle.nodes.specs.Finds.{nowhere-none, nowhere-more, place_found, place_none}
+use Rattle.nodes.specs.Holes.{moved_none}
+use Rattle.nodes.specs.Rises.{rises-test, rises-none, rises-pos}
 
-pub ruleset two_laws = (two-lt, two-gt, two-eq)
+pub ruleset above_laws = (rises-test, rises-none)
 
-pub ruleset place_laws = (nowhere-none, nowhere-more, place_found, place_none)
+pub ruleset rise_laws = (moved_none, rises-pos)

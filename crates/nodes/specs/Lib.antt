@@ -6,3 +6,4 @@ pub mod Holes
 pub mod Rises
 pub mod Finds
 pub mod Sorted
+pub mod Structs

@@ -1,9 +1,11 @@
 -- A node's rank is one number, of two words: so all order is of numbers.
-use Rattle.std.specs.Prelude.{◌≡◌, true, false, List, ℕ, ◌+◌, ◌*◌, ◌%◌, ◌^◌, ◌<◌, ◌≤◌, get_or, ltb}
+use Rattle.std.specs.Prelude.{◌≡◌, Some, true, false, List, ℕ, ◌+◌, ◌*◌, ◌%◌, ◌^◌, ◌<◌, ◌≤◌, get_or, ltb}
 use Rattle.std.proofs.Math.Path.{sym}
-use Rattle.std.proofs.Common.{◌∙◌, arith, Fits, lt-ltb, le-ltb}
+use Rattle.std.proofs.Common.{◌∙◌, arith, Fits, lt-ltb, le-ltb, eq-eqb, ne_eqb}
 use Rattle.std.proofs.Math.Decide.{dec_lt}
 use Rattle.std.specs.Int.{w64}
+use Rattle.std.specs.Ordering.{is_lt, is_some_and, nat_cmp, partial_ordering_then}
+use Rattle.rules.specs.Laws.Cases.{by_eq, by_lt}
 
 -- two words as one number
 unfoldable pub two : ℕ → ℕ → ℕ
@@ -33,3 +35,14 @@ module _ (a b c d : ℕ) where
   pub two-eq : c ≤ a → a ≤ c → ltb b d ≡ ltb (two a b) (two c d)
   unfolding two
   two-eq h f = ltb_iff b d (two a b) (two c d) (omega arith) (omega arith)
+
+  -- two pairs of words compare as their numbers
+  pub pairs-compare : Fits w64 b → Fits w64 d →
+      is_some_and is_lt (partial_ordering_then (Some (nat_cmp a c)) (Some (nat_cmp b d))) ≡ ltb (two a b) (two c d)
+  pairs-compare f g =
+      by_lt a c (λ h. rw (lt-ltb a c h) (two-lt h f))
+      (λ h. by_eq a c
+      (λ e. rw (le-ltb a c h, eq-eqb a c e) (by_lt b d (λ l. rw (lt-ltb b d l) (sym (lt-ltb b d l) ∙ two-eq h (omega arith)))
+      (λ l. by_eq b d (λ i. rw (le-ltb b d l, eq-eqb b d i) (sym (le-ltb b d l) ∙ two-eq h (omega arith)))
+      (λ i. rw (le-ltb b d l, ne_eqb b d i) (sym (le-ltb b d l) ∙ two-eq h (omega arith))))))
+      (λ e. rw (le-ltb a c h, ne_eqb a c e) (two-gt (omega arith) g)))

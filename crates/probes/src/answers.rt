@@ -2,9 +2,6 @@
 ghost use Rattle.std.specs.Prelude.{◌≡◌};
 ghost use Rattle.probes.specs.Answers.{plain_answer, plain_signed};
 
-use fields::field::Signed;
-use fields::number::Number;
-
 // A number and the place after it, with refusal 0; or a refusal, with the rest 0.
 #[repr(C)]
 #[derive(Drop)]
@@ -14,7 +11,7 @@ pub struct Answer {
     pub next: usize,
 }
 
-// The same of a signed number.
+// The same of a signed number: the C interface, since an exported signature may not hold a generic struct either.
 #[repr(C)]
 #[derive(Drop)]
 pub struct SignedAnswer {
@@ -23,36 +20,40 @@ pub struct SignedAnswer {
     pub next: usize,
 }
 
-pub fn plain_of(answer: Number) -> Answer
-    ensures { result ≡ plain_answer answer }
-{
-    match answer {
-        Number::Got(n, next) => Answer {
-            refusal: 0,
-            value: n,
-            next,
-        },
-        Number::Refused(k) => Answer {
-            refusal: k,
-            value: 0,
-            next: 0,
-        },
+impl From<Result<(u64, usize), u8>> for Answer {
+    ghost from_gives = { λ read answer. answer ≡ plain_answer read };
+
+    fn from(read: Result<(u64, usize), u8>) -> Answer {
+        match read {
+            Ok((n, next)) => Answer {
+                refusal: 0,
+                value: n,
+                next,
+            },
+            Err(refusal) => Answer {
+                refusal,
+                value: 0,
+                next: 0,
+            },
+        }
     }
 }
 
-pub fn plain_signed_of(answer: Signed) -> SignedAnswer
-    ensures { result ≡ plain_signed answer }
-{
-    match answer {
-        Signed::Got(z, next) => SignedAnswer {
-            refusal: 0,
-            value: z,
-            next,
-        },
-        Signed::Refused(k) => SignedAnswer {
-            refusal: k,
-            value: 0,
-            next: 0,
-        },
+impl From<Result<(i64, usize), u8>> for SignedAnswer {
+    ghost from_gives = { λ read answer. answer ≡ plain_signed read };
+
+    fn from(read: Result<(i64, usize), u8>) -> SignedAnswer {
+        match read {
+            Ok((z, next)) => SignedAnswer {
+                refusal: 0,
+                value: z,
+                next,
+            },
+            Err(refusal) => SignedAnswer {
+                refusal,
+                value: 0,
+                next: 0,
+            },
+        }
     }
 }

@@ -4,7 +4,9 @@ ghost use Rattle.rules.specs.Limits.{coefficient_most, value_most};
 ghost use Rattle.condition.specs.Measures.{AllIn};
 ghost use Rattle.condition.specs.Closing.{closed_slots, given_slots, put_closed};
 
+use crate::lent::conditions_of;
 use closing::close;
+use wire::given::Given;
 
 pub fn probe_close(
     alternatives: &mut [u8; 32],
@@ -21,24 +23,25 @@ pub fn probe_close(
     count: u8,
     job: usize,
 )
-    requires { (job < 32) × ((AllIn coefficient_most coefficients.now) × ((AllIn value_most locals.now) × (AllIn value_most constant.now))) }
+    requires { (job < 32)
+        × ((AllIn coefficient_most coefficients.now) × ((AllIn value_most locals.now) × (AllIn value_most constant.now))) }
     ensures { closed_slots alternatives.new atoms.new measure.new operator.new key.new
         ≡ put_closed job (closed_slots alternatives.old atoms.old measure.old operator.old key.old)
         (given_slots count counts.now given_measure.now given_operator.now coefficients.now constant.now locals.now) }
 {
-    close(
-        alternatives,
-        atoms,
-        measure,
-        operator,
-        key,
-        counts,
-        given_measure,
-        given_operator,
-        coefficients,
-        constant,
-        locals,
-        count,
-        job,
-    );
+    let mut conditions = conditions_of(alternatives, atoms, measure, operator, key);
+    let given = Given {
+        locals: *locals,
+        counts: *counts,
+        measure: *given_measure,
+        operator: *given_operator,
+        coefficients: *coefficients,
+        constant: *constant,
+    };
+    close(&mut conditions, &given, count, job);
+    *alternatives = conditions.alternatives;
+    *atoms = conditions.atoms;
+    *measure = conditions.measure;
+    *operator = conditions.operator;
+    *key = conditions.key;
 }

@@ -5,12 +5,13 @@ ghost use Rattle.wire.specs.WaitSlots.{atom_slots, wait_slots, numbers, as_wait,
 ghost use Rattle.probes.specs.Answers.{plain_answer};
 ghost use Rattle.probes.specs.Heads.{plain_head};
 
-use crate::answers::{Answer, plain_of};
-use wire::head::{Head, read_head};
+use crate::answers::Answer;
+use wire::given::Given;
+use wire::head::{Head, Kind, read_head};
 use wire::wait::read_wait;
 
 // The event's kind as its record has it, its job, of a Set its variable and value, and the next place, with refusal 0; or kind 0 and the
-// refusal, which is 0 if no byte is left. What is not named is 0.
+// refusal, which is 0 if no byte is left. What is not named is 0. Numbers for kinds are the C interface.
 #[repr(C)]
 #[derive(Drop)]
 pub struct HeadAnswer {
@@ -22,74 +23,45 @@ pub struct HeadAnswer {
     pub next: usize,
 }
 
-pub fn plain_head_of(head: Head) -> HeadAnswer
-    ensures { result ≡ plain_head head }
-{
-    match head {
-        Head::Arrive(j, next) => HeadAnswer {
-            kind: 1,
-            refusal: 0,
-            job: j,
-            variable: 0,
-            value: 0,
-            next,
-        },
-        Head::Admit(j, next) => HeadAnswer {
-            kind: 2,
-            refusal: 0,
-            job: j,
-            variable: 0,
-            value: 0,
-            next,
-        },
-        Head::Set(j, v, z, next) => HeadAnswer {
-            kind: 3,
-            refusal: 0,
-            job: j,
-            variable: v,
-            value: z,
-            next,
-        },
-        Head::Wait(j, next) => HeadAnswer {
-            kind: 4,
-            refusal: 0,
-            job: j,
-            variable: 0,
-            value: 0,
-            next,
-        },
-        Head::Leave(j, next) => HeadAnswer {
-            kind: 5,
-            refusal: 0,
-            job: j,
-            variable: 0,
-            value: 0,
-            next,
-        },
-        Head::Refused(k) => HeadAnswer {
-            kind: 0,
-            refusal: k,
-            job: 0,
-            variable: 0,
-            value: 0,
-            next: 0,
-        },
-        Head::Nothing => HeadAnswer {
+impl From<Result<Option<Head>, u8>> for HeadAnswer {
+    ghost from_gives = { λ read answer. answer ≡ plain_head read };
+
+    fn from(read: Result<Option<Head>, u8>) -> HeadAnswer {
+        let mut answer = HeadAnswer {
             kind: 0,
             refusal: 0,
             job: 0,
             variable: 0,
             value: 0,
             next: 0,
-        },
+        };
+        match read {
+            Ok(Some(head)) => {
+                answer.job = head.job;
+                answer.next = head.next;
+                match head.kind {
+                    Kind::Arrive => answer.kind = 1,
+                    Kind::Admit => answer.kind = 2,
+                    Kind::Set { variable, value } => {
+                        answer.kind = 3;
+                        answer.variable = variable;
+                        answer.value = value;
+                    }
+                    Kind::Wait => answer.kind = 4,
+                    Kind::Leave => answer.kind = 5,
+                }
+            }
+            Ok(None) => {}
+            Err(refusal) => answer.refusal = refusal,
+        }
+        answer
     }
 }
 
 pub fn probe_head(bytes: &[u8], at: usize) -> HeadAnswer
     ensures { result ≡ plain_head (head_at bytes.now (drop at bytes.now)) }
 {
-    let head = read_head(bytes, at);
-    plain_head_of(head)
+    read_head(bytes, at).map_err(u8::from).into()
 }
 
 pub fn probe_wait(
@@ -108,16 +80,20 @@ pub fn probe_wait(
         × (wait_slots counts.new (atom_slots measure.new operator.new coefficients.new constant.new)
         ≡ slots_of (numbers measures (drop at bytes.now))) }
 {
-    let answer = read_wait(
-        locals,
-        counts,
-        measure,
-        operator,
-        coefficients,
-        constant,
-        bytes,
-        at,
-        measures,
-    );
-    plain_of(answer)
+    let mut given = Given {
+        locals: *locals,
+        counts: *counts,
+        measure: *measure,
+        operator: *operator,
+        coefficients: *coefficients,
+        constant: *constant,
+    };
+    let answer = read_wait(&mut given, bytes, at, measures);
+    *locals = given.locals;
+    *counts = given.counts;
+    *measure = given.measure;
+    *operator = given.operator;
+    *coefficients = given.coefficients;
+    *constant = given.constant;
+    answer.map_err(u8::from).into()
 }

@@ -1,5 +1,5 @@
-// The index over lent arrays: a job's rank words, joining, parting, and the search. Each requires what the function under it does, and the caller
-// answers for it.
+// The index over lent arrays: a job's rank words, joining, parting, and the search. Each requires what the function under it does, and the
+// caller answers for it.
 ghost use Rattle.std.specs.Prelude.{◌≡◌, ℕ, ◌+◌, ◌*◌, ◌<◌, get_or};
 ghost use Rattle.std.proofs.lemmas.List.Edits.{sets};
 ghost use Rattle.rules.specs.Limits.{key_most};
@@ -16,11 +16,11 @@ ghost use Rattle.search.specs.Indexed.{Indexed};
 ghost use Rattle.search.specs.Answers.{search_answer};
 ghost use Rattle.probes.specs.Searches.{plain_search};
 
+use crate::lent::{conditions_of, index_of, ranks_of, shared_of};
 use filing::write_words;
-use index::{join, part};
 use search::{Answer, search};
 
-// 1 and the job that is called, or 0 and job 0, and in either case the number of alternatives evaluated.
+// 1 and the job that is called, or 0 and job 0, and in either case the number of alternatives evaluated. Numbers are the C interface.
 #[repr(C)]
 #[derive(Drop)]
 pub struct Searched {
@@ -29,20 +29,22 @@ pub struct Searched {
     pub evaluated: usize,
 }
 
-pub fn plain_search_of(answer: Answer) -> Searched
-    ensures { result ≡ plain_search answer }
-{
-    match answer {
-        Answer::Calls(job, count) => Searched {
-            calls: 1,
-            job,
-            evaluated: count,
-        },
-        Answer::Nobody(count) => Searched {
-            calls: 0,
-            job: 0,
-            evaluated: count,
-        },
+impl From<Answer> for Searched {
+    ghost from_gives = { λ answer searched. searched ≡ plain_search answer };
+
+    fn from(answer: Answer) -> Searched {
+        match answer {
+            Answer::Calls(job, count) => Searched {
+                calls: 1,
+                job,
+                evaluated: count,
+            },
+            Answer::Nobody(count) => Searched {
+                calls: 0,
+                job: 0,
+                evaluated: count,
+            },
+        }
     }
 }
 
@@ -61,7 +63,11 @@ pub fn probe_words(
         (from (λ i. high_word (tag_means measure.now operator.now key.now (tag_at atoms.now operator.now (job * 4 + i)))) 4 0))
         × (low.new ≡ sets low.old (job * 4) (from (λ i. low_word ticket i) 4 0)) }
 {
-    write_words(high, low, atoms, measure, operator, key, ticket, job);
+    let mut ranks = ranks_of(high, low);
+    let conditions = conditions_of(&[0; 32], atoms, measure, operator, key);
+    write_words(&mut ranks, &conditions, ticket, job);
+    *high = ranks.high;
+    *low = ranks.low;
 }
 
 pub fn probe_join(
@@ -78,27 +84,21 @@ pub fn probe_join(
     ticket: &[u32; 32],
     job: usize,
 )
-    requires job_bound { (job < 32) × ((((k : ℕ) → get_or measure.now k 0 < 16)) × ((AllIn key_most key.now) × (get_or entry.old job 0 ≡ 0))) }
+    requires job_bound { (job < 32)
+        × ((((k : ℕ) → get_or measure.now k 0 < 16)) × ((AllIn key_most key.now) × (get_or entry.old job 0 ≡ 0))) }
     requires by_index { (k : ℕ) → Waits entry.old k → get_or ticket.now k 0 ≡ get_or ticket.now job 0 → ⊥ }
     requires words_of { WordsOf (closed_slots alternatives.now atoms.now measure.now operator.now key.now) ticket.now high.now low.now job }
-    requires index { Index (closed_slots alternatives.now atoms.now measure.now operator.now key.now) ticket.now entry.old high.now low.now places.old lengths.old }
+    requires index { Index (closed_slots alternatives.now atoms.now measure.now operator.now key.now)
+        ticket.now entry.old high.now low.now places.old lengths.old }
     ensures { JoinedIndex (closed_slots alternatives.now atoms.now measure.now operator.now key.now)
         ticket.now high.now low.now job entry.old entry.new places.new lengths.new }
 {
-    join(
-        places,
-        lengths,
-        entry,
-        high,
-        low,
-        alternatives,
-        atoms,
-        measure,
-        operator,
-        key,
-        ticket,
-        job,
-    );
+    let mut index = index_of(entry, high, low, places, lengths);
+    let conditions = conditions_of(alternatives, atoms, measure, operator, key);
+    index.join(&conditions, ticket, job);
+    *entry = index.entry;
+    places.copy_from_slice(&index.homes.places);
+    lengths.copy_from_slice(&index.homes.lengths);
 }
 
 pub fn probe_part(
@@ -116,24 +116,17 @@ pub fn probe_part(
     job: usize,
 )
     requires job_bound { (job < 32) × (((k : ℕ) → get_or measure.now k 0 < 16)) }
-    requires index { Index (closed_slots alternatives.now atoms.now measure.now operator.now key.now) ticket.now entry.old high.now low.now places.old lengths.old }
+    requires index { Index (closed_slots alternatives.now atoms.now measure.now operator.now key.now)
+        ticket.now entry.old high.now low.now places.old lengths.old }
     ensures { PartedIndex (closed_slots alternatives.now atoms.now measure.now operator.now key.now)
         ticket.now high.now low.now job entry.old entry.new places.new lengths.new }
 {
-    part(
-        places,
-        lengths,
-        entry,
-        high,
-        low,
-        alternatives,
-        atoms,
-        measure,
-        operator,
-        key,
-        ticket,
-        job,
-    );
+    let mut index = index_of(entry, high, low, places, lengths);
+    let conditions = conditions_of(alternatives, atoms, measure, operator, key);
+    index.part(&conditions, ticket, job);
+    *entry = index.entry;
+    places.copy_from_slice(&index.homes.places);
+    lengths.copy_from_slice(&index.homes.lengths);
 }
 
 pub fn probe_search(
@@ -152,20 +145,11 @@ pub fn probe_search(
     requires fact_1 { Ranges coefficients.now values.now key.now }
     requires fact_2 { Indexed measures atoms.now measure.now operator.now key.now high.now low.now places.now lengths.now }
     ensures { (i : Indexed measures atoms.now measure.now operator.now key.now high.now low.now places.now lengths.now) →
-        result ≡ plain_search (search_answer (now_at coefficients.now values.now) (waiters_in (closed_slots i.alternatives atoms.now measure.now operator.now key.now) i.ticket i.entry)) }
+        result ≡ plain_search (search_answer (now_at coefficients.now values.now)
+        (waiters_in (closed_slots i.alternatives atoms.now measure.now operator.now key.now) i.ticket i.entry)) }
 {
-    let answer = search(
-        places,
-        lengths,
-        high,
-        low,
-        measures,
-        coefficients,
-        values,
-        atoms,
-        measure,
-        operator,
-        key,
-    );
-    plain_search_of(answer)
+    let index = index_of(&[0; 32], high, low, places, lengths);
+    let shared = shared_of(coefficients, values);
+    let conditions = conditions_of(&[0; 32], atoms, measure, operator, key);
+    search(&index, measures, &shared, &conditions).into()
 }

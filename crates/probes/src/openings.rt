@@ -4,7 +4,7 @@ ghost use Rattle.rules.specs.Record.{opening};
 ghost use Rattle.wire.specs.Openings.{as_opening, coefficients_of, values_of};
 ghost use Rattle.probes.specs.Answers.{plain_answer};
 
-use crate::answers::{Answer, plain_of};
+use crate::answers::Answer;
 use wire::opening::read_opening;
 
 pub fn probe_opening(
@@ -17,6 +17,7 @@ pub fn probe_opening(
         × (coefficients.new ≡ coefficients_of (opening (drop at bytes.now)))
         × (values.new ≡ values_of (opening (drop at bytes.now))) }
 {
-    let answer = read_opening(bytes, at, coefficients, values);
-    plain_of(answer)
+    read_opening(bytes, at, coefficients, values)
+        .map_err(u8::from)
+        .into()
 }

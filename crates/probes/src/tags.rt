@@ -5,24 +5,15 @@ ghost use Rattle.condition.specs.Measures.{Ranges, now_at};
 ghost use Rattle.condition.specs.Tags.{tag_at, tag_means};
 ghost use Rattle.probes.specs.Tags.{plain_tag};
 
-use condition::tag::{Tag, tag_holds, tag_of};
+use crate::lent::{conditions_of, shared_of};
 
-// 512, which is no slot, where there is no tag.
-pub fn plain_tag_of(tag: Tag) -> usize
-    ensures { result ≡ plain_tag tag }
-{
-    match tag {
-        Tag::At(slot) => slot,
-        Tag::Nowhere => 512,
-    }
-}
-
+// 512, which is no slot, where there is no tag: the C interface.
 pub fn probe_tag(atoms: &[u8; 128], operator: &[u8; 512], node: usize) -> usize
     requires { node < 128 }
     ensures { result ≡ plain_tag (tag_at atoms.now operator.now node) }
 {
-    let tag = tag_of(atoms, operator, node);
-    plain_tag_of(tag)
+    let conditions = conditions_of(&[0; 32], atoms, &[0; 512], operator, &[0; 512]);
+    conditions.tag_of(node).unwrap_or(512)
 }
 
 pub fn probe_tag_holds(
@@ -35,7 +26,10 @@ pub fn probe_tag_holds(
     node: usize,
 ) -> bool
     requires { (node < 128) × (Ranges coefficients.now values.now key.now) }
-    ensures { result ≡ holds (now_at coefficients.now values.now) (tag_means measure.now operator.now key.now (tag_at atoms.now operator.now node)) }
+    ensures { result ≡ holds (now_at coefficients.now values.now)
+        (tag_means measure.now operator.now key.now (tag_at atoms.now operator.now node)) }
 {
-    tag_holds(coefficients, values, atoms, measure, operator, key, node)
+    let shared = shared_of(coefficients, values);
+    let conditions = conditions_of(&[0; 32], atoms, measure, operator, key);
+    conditions.tag_holds(&shared, node)
 }

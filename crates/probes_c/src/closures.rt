@@ -20,7 +20,8 @@ pub extern "C" fn probe_close(
     count: u8,
     job: usize,
 )
-    requires { (job < 32) × ((AllIn coefficient_most coefficients.now) × ((AllIn value_most locals.now) × (AllIn value_most constant.now))) }
+    requires { (job < 32)
+        × ((AllIn coefficient_most coefficients.now) × ((AllIn value_most locals.now) × (AllIn value_most constant.now))) }
     ensures { closed_slots alternatives.new atoms.new measure.new operator.new key.new
         ≡ put_closed job (closed_slots alternatives.old atoms.old measure.old operator.old key.old)
         (given_slots count counts.now given_measure.now given_operator.now coefficients.now constant.now locals.now) }

@@ -31,7 +31,8 @@ pub extern "C" fn probe_alternative_true(
     node: usize,
 ) -> bool
     requires { (node < 128) × (Ranges coefficients.now values.now key.now) }
-    ensures { result ≡ alternative_true (now_at coefficients.now values.now) (alternative_at atoms.now measure.now operator.now key.now node) }
+    ensures { result ≡ alternative_true (now_at coefficients.now values.now)
+        (alternative_at atoms.now measure.now operator.now key.now node) }
 {
     probes::conditions::probe_alternative_true(
         coefficients,
@@ -56,7 +57,8 @@ pub extern "C" fn probe_condition_true(
     job: usize,
 ) -> bool
     requires { (job < 32) × (Ranges coefficients.now values.now key.now) }
-    ensures { result ≡ condition_true (now_at coefficients.now values.now) (condition_at alternatives.now atoms.now measure.now operator.now key.now job) }
+    ensures { result ≡ condition_true (now_at coefficients.now values.now)
+        (condition_at alternatives.now atoms.now measure.now operator.now key.now job) }
 {
     probes::conditions::probe_condition_true(
         coefficients,
@@ -81,7 +83,8 @@ pub extern "C" fn probe_same_condition(
     other: usize,
 ) -> bool
     requires { (one < 32) × ((other < 32) × (AllIn key_most key.now)) }
-    ensures { result ≡ identical (condition_at alternatives.now atoms.now measure.now operator.now key.now one) (condition_at alternatives.now atoms.now measure.now operator.now key.now other) }
+    ensures { result ≡ identical (condition_at alternatives.now atoms.now measure.now operator.now key.now one)
+        (condition_at alternatives.now atoms.now measure.now operator.now key.now other) }
 {
     probes::conditions::probe_same_condition(
         alternatives,

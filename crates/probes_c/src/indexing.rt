@@ -51,10 +51,12 @@ pub extern "C" fn probe_join(
     ticket: &[u32; 32],
     job: usize,
 )
-    requires job_bound { (job < 32) × ((((k : ℕ) → get_or measure.now k 0 < 16)) × ((AllIn key_most key.now) × (get_or entry.old job 0 ≡ 0))) }
+    requires job_bound { (job < 32)
+        × ((((k : ℕ) → get_or measure.now k 0 < 16)) × ((AllIn key_most key.now) × (get_or entry.old job 0 ≡ 0))) }
     requires by_index { (k : ℕ) → Waits entry.old k → get_or ticket.now k 0 ≡ get_or ticket.now job 0 → ⊥ }
     requires words_of { WordsOf (closed_slots alternatives.now atoms.now measure.now operator.now key.now) ticket.now high.now low.now job }
-    requires index { Index (closed_slots alternatives.now atoms.now measure.now operator.now key.now) ticket.now entry.old high.now low.now places.old lengths.old }
+    requires index { Index (closed_slots alternatives.now atoms.now measure.now operator.now key.now)
+        ticket.now entry.old high.now low.now places.old lengths.old }
     ensures { JoinedIndex (closed_slots alternatives.now atoms.now measure.now operator.now key.now)
         ticket.now high.now low.now job entry.old entry.new places.new lengths.new }
 {
@@ -90,7 +92,8 @@ pub extern "C" fn probe_part(
     job: usize,
 )
     requires job_bound { (job < 32) × (((k : ℕ) → get_or measure.now k 0 < 16)) }
-    requires index { Index (closed_slots alternatives.now atoms.now measure.now operator.now key.now) ticket.now entry.old high.now low.now places.old lengths.old }
+    requires index { Index (closed_slots alternatives.now atoms.now measure.now operator.now key.now)
+        ticket.now entry.old high.now low.now places.old lengths.old }
     ensures { PartedIndex (closed_slots alternatives.now atoms.now measure.now operator.now key.now)
         ticket.now high.now low.now job entry.old entry.new places.new lengths.new }
 {
@@ -127,7 +130,8 @@ pub extern "C" fn probe_search(
     requires fact_1 { Ranges coefficients.now values.now key.now }
     requires fact_2 { Indexed measures atoms.now measure.now operator.now key.now high.now low.now places.now lengths.now }
     ensures { (i : Indexed measures atoms.now measure.now operator.now key.now high.now low.now places.now lengths.now) →
-        result ≡ plain_search (search_answer (now_at coefficients.now values.now) (waiters_in (closed_slots i.alternatives atoms.now measure.now operator.now key.now) i.ticket i.entry)) }
+        result ≡ plain_search (search_answer (now_at coefficients.now values.now)
+        (waiters_in (closed_slots i.alternatives atoms.now measure.now operator.now key.now) i.ticket i.entry)) }
 {
     probes::indexing::probe_search(
         places,

@@ -1,4 +1,5 @@
-// What the Rust tests link: each export calls the function of its name in `probes`, and states its clauses.
+// What the Rust tests link: each export calls the function of its name in `probes`, and states its clauses. Arrays are lent one by one: the
+// C interface.
 #![tactic(auto)]
 
 mod closures;

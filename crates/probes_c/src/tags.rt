@@ -24,7 +24,8 @@ pub extern "C" fn probe_tag_holds(
     node: usize,
 ) -> bool
     requires { (node < 128) × (Ranges coefficients.now values.now key.now) }
-    ensures { result ≡ holds (now_at coefficients.now values.now) (tag_means measure.now operator.now key.now (tag_at atoms.now operator.now node)) }
+    ensures { result ≡ holds (now_at coefficients.now values.now)
+        (tag_means measure.now operator.now key.now (tag_at atoms.now operator.now node)) }
 {
     probes::tags::probe_tag_holds(coefficients, values, atoms, measure, operator, key, node)
 }

@@ -1,5 +1,5 @@
-// Rank words: two unsigned words of an alternative. Of two alternatives whose tags hold, the one whose words are lower, the high word before the
-// low one, is the earlier in document 01's order ("Which job a search calls"): `word-order` of proofs/Law.antt.
+// Rank words: two unsigned words of an alternative. Of two alternatives whose tags hold, the one whose words are lower, the high word
+// before the low one, is the earlier in document 01's order ("Which job a search calls"): `word-order` of proofs/Law.antt.
 #![tactic(auto)]
 
 ghost use Rattle.std.specs.Prelude.{◌≡◌, ◌^◌, ◌<◌, ◌≤◌, neg_ℤ};
@@ -22,8 +22,7 @@ fn upward(key: i64) -> u64
     requires { Within key_room key }
     ensures { (result ≡ biased key) × (result < 2 ^ 40) }
 {
-    let sum = BIAS + key;
-    sum as u64
+    (BIAS + key) as u64
 }
 
 // A key of < or ≤: the larger key is the lower number.
@@ -31,10 +30,10 @@ fn downward(key: i64) -> u64
     requires { Within key_room key }
     ensures { (result ≡ biased (neg_ℤ key)) × (result < 2 ^ 40) }
 {
-    let difference = BIAS - key;
-    difference as u64
+    (BIAS - key) as u64
 }
 
+// Five numbers in one word, so that one comparison settles the order of two alternatives: a struct compared field by field is five.
 fn pack(class: u64, measure: u64, direction: u64, key: u64, strict: u64) -> u64
     requires { (class ≤ 2) × (measure < 16) × (direction < 2) × (key < 2 ^ 40) × (strict < 2) }
     ensures { result ≡ packed class measure direction key strict }
@@ -42,21 +41,19 @@ fn pack(class: u64, measure: u64, direction: u64, key: u64, strict: u64) -> u64
     class * CLASS + measure * MEASURE + direction * DIRECTION + key * 2 + strict
 }
 
-// The high word of an alternative with this tag.
+// The high word of an alternative with this tag; operator 1 is =, 5 and 6 are > and ≥; 3 and 5, < and >, are strict.
 #[tactic(auto, unfolding(crate::specs::Words::high_word))]
 pub fn high_word(measure: u8, operator: u8, key: i64) -> u64
     requires { (measure < 16) × Within key_room key }
     ensures { result ≡ high_word (some (record { measure = measure; operator = operator; key = key })) }
 {
-    let measure = measure as u64;
-    let strict = (operator % 2) as u64;
-    if operator == 1 {
-        return pack(0, measure, 0, upward(key), 0);
+    let measure = u64::from(measure);
+    let strict = u64::from(operator % 2);
+    match operator {
+        1 => pack(0, measure, 0, upward(key), 0),
+        5.. => pack(1, measure, 0, upward(key), strict),
+        _ => pack(1, measure, 1, downward(key), strict),
     }
-    if 5 <= operator {
-        return pack(1, measure, 0, upward(key), strict);
-    }
-    pack(1, measure, 1, downward(key), strict)
 }
 
 // The high word of an alternative without a tag.
@@ -72,5 +69,5 @@ pub fn low_word(ticket: u32, alternative: usize) -> u64
     requires { alternative < 4 }
     ensures { result ≡ low_word ticket alternative }
 {
-    ticket as u64 * 4 + alternative as u64
+    u64::from(ticket) * 4 + alternative as u64
 }

@@ -1,4 +1,4 @@
--- A room as it stands in lent arrays, and the rules' room that it is. Standings are numbers: 0 outside, 1 at the door, 2 inside, 3 waiting, 4 called.
+-- A room as it stands in its arrays, and the rules' room that it is. Standings are numbers: 0 outside, 1 at the door, 2 inside, 3 waiting, 4 called.
 -- What stands in the slots of a job that neither waits nor is called, its condition and its ticket, is no part of the room.
 use Rattle.std.specs.Prelude.{List, ℕ, ◌*◌, eqb, ℤ, pos, get_or, if◌then◌else◌}
 use Rattle.rules.specs.Condition.{Condition}

@@ -1,5 +1,5 @@
 -- Set: the job inside gives a shared variable a value.
-use Rattle.std.specs.Prelude.{◌≡◌, refl, List, ℕ, ◌<◌, eqb, ℤ, pos, get_or, set, if◌then◌else◌}
+use Rattle.std.specs.Prelude.{◌≡◌, refl, List, ℕ, ◌<◌, eqb, ℤ, pos, get_or, set, if◌then◌else◌, Err}
 use Rattle.std.proofs.Common.{ap, ◌∙◌, arith, eq-eqb, ne_eqb, length-set, get_or-set_same, get_or-set_other}
 use Rattle.rules.specs.Laws.Cases.{by_eq}
 use Rattle.rules.specs.Limits.{value_most}
@@ -11,14 +11,14 @@ use Rattle.condition.specs.Closes.{condition_in}
 use Rattle.room.specs.Arrays.{Arrays, arrays, room_of}
 use Rattle.room.specs.Kept.{Sound}
 use Rattle.room.specs.Standings.{standing-is}
-use Rattle.room.specs.Reports.{accepted-not}
+use Rattle.room.specs.Reports.{Report, plain_report, accepted-not}
 use Rattle.room.specs.Steps.{Stepped, inside_is}
-use Rattle.room.specs.declared.report.Report.{Report}
-use Rattle.room.specs.declared.report.Report.TheVariants.{Accepted, Refused}
+use Rattle.fields.specs.declared.refusal.Refusal.TheVariants.{WrongStanding}
+use Rattle.room.specs.declared.report.Outcome.TheVariants.{Done}
 
 -- the report of an event that needs the job inside and makes no search
 abbrev pub inside_report : List ℕ → ℕ → Report
-inside_report standing job = if eqb (get_or standing job 0) 2 then Accepted 0 32 0 else Refused 5
+inside_report standing job = if eqb (get_or standing job 0) 2 then plain_report Done else Err WrongStanding
 
 abbrev pub assign_values : List ℕ → List ℤ → ℕ → ℕ → ℤ → List ℤ
 assign_values standing values job variable value = if eqb (get_or standing job 0) 2 then set values variable value else values
@@ -28,10 +28,12 @@ revalued a values = arrays a.coefficients values a.standing a.ticket a.slots a.e
 
 -- ---- as the code has them
 module _ (standing : List ℕ) (values : List ℤ) (job variable : ℕ) (value : ℤ) where
-  pub assigns : {x : ℤ} → x ≡ value → get_or standing job 0 ≡ 2 → (Accepted 0 32 0 ≡ inside_report standing job) × (set values variable x ≡ assign_values standing values job variable value)
+  pub assigns : {x : ℤ} → x ≡ value → get_or standing job 0 ≡ 2 →
+      (plain_report Done ≡ inside_report standing job) × (set values variable x ≡ assign_values standing values job variable value)
   assigns e d = rw (eq-eqb (get_or standing job 0) 2 d) (refl, ap (set values variable) e)
 
-  pub assigns-not : (get_or standing job 0 ≡ 2 → ⊥) → (Refused 5 ≡ inside_report standing job) × (values ≡ assign_values standing values job variable value)
+  pub assigns-not : (get_or standing job 0 ≡ 2 → ⊥) →
+      (Err WrongStanding ≡ inside_report standing job) × (values ≡ assign_values standing values job variable value)
   assigns-not d = rw (ne_eqb (get_or standing job 0) 2 d) (refl, refl)
 
 -- ---- and that is the rules' step
@@ -72,5 +74,11 @@ module _ (a : Arrays) (k : Sound a) (job variable : ℕ) (value : ℤ) (small : 
   assign-steps =
       let test = inside-test a k job small in
       by_bool (eqb (get_or a.standing job 0) 2)
-      (λ t. record { report = rw (test ∙ t, t) refl; room = rw (test ∙ t, t) refl; sound = rw t assigned; same = λ n e. absurd (accepted-not (rw t at e)); plain = rw t (omega arith, omega arith) })
+      (λ t. record {
+        report = rw (test ∙ t, t) refl;
+        room = rw (test ∙ t, t) refl;
+        sound = rw t assigned;
+        same = λ n e. absurd (accepted-not (rw t at e));
+        plain = rw t tt;
+      })
       (λ t. record { report = rw (test ∙ t, t) refl; room = rw (test ∙ t, t) refl; sound = rw t k; same = λ n e. rw t refl; plain = rw t tt })

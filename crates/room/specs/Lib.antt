@@ -1,5 +1,7 @@
--- The room over lent arrays: what it is, what it keeps, and each event.
+-- The room: what it is, what it keeps, and each event.
 pub mod Arrays
+pub mod Rooms
+pub mod Codes
 pub mod Stores
 pub mod Kept
 pub mod Standings

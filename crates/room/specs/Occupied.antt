@@ -1,6 +1,7 @@
 -- Whether somebody is inside: one of the 32 standings is.
-use Rattle.std.specs.Prelude.{◌≡◌, refl, Bool, true, false, List, ℕ, zero, suc, ◌+◌, ◌-◌, ◌<◌, ◌≤◌, eqb, get_or, if◌then◌else◌}
-use Rattle.std.proofs.Common.{arith, eq-eqb, ne_eqb}
+use Rattle.std.specs.Prelude.{◌≡◌, refl, Bool, true, false, ◌||◌, List, [], ◌∷◌, ℕ, zero, suc, ◌+◌, eqb, get_or, length, if◌then◌else◌}
+use Rattle.std.specs.List.{list_any}
+use Rattle.std.proofs.Common.{sym, ap, ◌∙◌, arith, add-zero, zero-add}
 use Rattle.rules.specs.Base.{any}
 use Rattle.rules.specs.Room.{is_inside}
 use Rattle.rules.specs.Step.{occupied}
@@ -17,26 +18,21 @@ is_in code = eqb code 2
 abbrev pub somebody : List ℕ → ℕ → ℕ → Bool
 somebody standing n j = any is_in (from (λ k. get_or standing k 0) n j)
 
--- ---- as the code goes along
-module _ (standing : List ℕ) where
-  abbrev pub somebody_left : ℕ → Bool
-  somebody_left i = somebody standing (32 - i) i
+-- ---- as the code has it: a test over the whole list
+or-if : (b c : Bool) → (b || c) ≡ (if b then true else c)
+or-if true c = refl
+or-if false c = refl
 
-  module _ (i : ℕ) {b : Bool} (h : i < 32) (e : somebody_left i ≡ b) where
-    step : 32 - i ≡ suc (32 - (i + 1))
-    step = omega arith
+any_whole : (l : List ℕ) (f : ℕ → ℕ) (p : ℕ) → ((k : ℕ) → f (p + k) ≡ get_or l k 0) → list_any is_in l ≡ any is_in (from f (length l) p)
+any_whole [] f p e = refl
+any_whole (x ∷ l) f p e =
+    let here : f p ≡ x = ap f (sym (add-zero p)) ∙ e 0 in
+    let later = any_whole l f (suc p) (λ k. let s : suc p + k ≡ p + suc k = omega arith in ap f s ∙ e (suc k)) in
+    rw (here, later) (or-if (is_in x) (any is_in (from f (length l) (suc p))))
 
-    next : suc i ≡ i + 1
-    next = omega arith
-
-    pub somebody-here : get_or standing i 0 ≡ 2 → true ≡ b
-    somebody-here d = rw (step, eq-eqb (get_or standing i 0) 2 d) at e
-
-    pub somebody-later : (get_or standing i 0 ≡ 2 → ⊥) → somebody_left (i + 1) ≡ b
-    somebody-later d = rw (step, ne_eqb (get_or standing i 0) 2 d, next) at e
-
-  pub nobody-left : (i : ℕ) {b : Bool} → somebody_left i ≡ b → 32 ≤ i → false ≡ b
-  nobody-left i e h = let z : 32 - i ≡ 0 = omega arith in rw z at e
+pub somebody-listed : (standing : List ℕ) → length standing ≡ 32 → list_any is_in standing ≡ somebody standing 32 0
+somebody-listed standing long =
+    any_whole standing (λ k. get_or standing k 0) 0 (λ k. ap (λ m. get_or standing m 0) (zero-add k)) ∙ ap (λ n. somebody standing n 0) long
 
 -- ---- and that is the rules' test
 pub occupied-is : (a : Arrays) → Sound a → occupied (room_of a) ≡ somebody a.standing 32 0

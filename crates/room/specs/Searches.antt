@@ -20,6 +20,7 @@ use Rattle.room.specs.Standings.{waiters-same}
 use Rattle.room.specs.Calls.{called_standing, moved, CallsNext, called-waits}
 use Rattle.room.specs.Stands.{call-room}
 use Rattle.room.specs.Reports.{meaning, outcome_of, search_report, report-means, report-plain, Plain}
+use Rattle.room.specs.declared.report.Outcome.{Outcome}
 
 module _ (a : Arrays) (k : Sound a) where
   -- the values of the measures, as the code has them
@@ -49,11 +50,12 @@ module _ (a : Arrays) (k : Sound a) where
     pub search-room : room_of (moved a standing entry places lengths) ≡ call (found (now (room_of a)) waiting_in) (room_of a)
     search-room = call-room a now_in standing entry places lengths r k.sizes n ∙ ap (λ f. call f (room_of a)) found-is
 
-    pub search-report : (outcome : ℕ) → meaning (search_report outcome r) ≡ accepted (outcome_of outcome) (job_of (found (now (room_of a)) waiting_in)) (evaluated (now (room_of a)) waiting_in)
+    pub search-report : (outcome : Outcome) → meaning (search_report outcome r)
+        ≡ accepted (outcome_of outcome) (job_of (found (now (room_of a)) waiting_in)) (evaluated (now (room_of a)) waiting_in)
     search-report outcome = report-means a.slots a.ticket a.entry now_in outcome r n.answer-is ∙ (λ i. accepted (outcome_of outcome) (job_of (found-is i)) (evaluated-is i))
 
-    pub search-plain : (outcome : ℕ) → outcome ≤ 4 → Plain (search_report outcome r)
-    search-plain outcome h = report-plain a.slots a.ticket a.entry now_in outcome h r n.answer-is
+    pub search-plain : (outcome : Outcome) → Plain (search_report outcome r)
+    search-plain outcome = report-plain a.slots a.ticket a.entry now_in outcome r n.answer-is
 
     -- who did not wait stands as he stood
     pub search-others : (job : ℕ) → eqb (get_or a.standing job 0) 3 ≡ false → get_or standing job 0 ≡ get_or a.standing job 0

@@ -1,14 +1,14 @@
 -- What an event leaves: the rules' report, the rules' room, and arrays that keep what they kept; refused, the very arrays.
-use Rattle.std.specs.Prelude.{◌≡◌, refl, ℕ, zero, suc, ◌≤◌, eqb}
-use Rattle.std.proofs.Common.{arith}
+use Rattle.std.specs.Prelude.{◌≡◌, refl, ℕ, zero, suc, ◌≤◌, eqb, Err}
+use Rattle.std.proofs.Common.{ap, subst, arith, sym}
 use Rattle.rules.specs.Condition.{Condition}
 use Rattle.rules.specs.Room.{is_inside, is_outside}
 use Rattle.rules.specs.Step.{Event, step}
+use Rattle.fields.specs.declared.refusal.Refusal.{Refusal}
 use Rattle.room.specs.Arrays.{Arrays, standing_of, room_of}
 use Rattle.room.specs.Kept.{Sound}
-use Rattle.room.specs.Reports.{meaning, Plain}
-use Rattle.room.specs.declared.report.Report.{Report}
-use Rattle.room.specs.declared.report.Report.TheVariants.{Refused}
+use Rattle.room.specs.Reports.{Report, meaning, Plain}
+use Rattle.room.specs.Tickets.{with_next}
 
 -- b is what an event makes of a, with this report
 pub record Stepped (a b : Arrays) (e : Event) (r : Report) : Type 0 where
@@ -16,9 +16,14 @@ pub record Stepped (a b : Arrays) (e : Event) (r : Report) : Type 0 where
   pub room : room_of b ≡ (step (room_of a) e).room
   pub sound : Sound b
   -- a refused event leaves every number as it was
-  pub same : (k : ℕ) → r ≡ Refused k → b ≡ a
-  -- its numbers are those of `meaning`: so there is one such report (`one-report`)
+  pub same : (k : Refusal) → r ≡ Err k → b ≡ a
+  -- who is called is one of the 32 jobs
   pub plain : Plain r
+
+-- whatever the next ticket is, so also with its own
+pub own-next : (a b : Arrays) (e : Event) (r : Report) →
+    ((next : ℕ) → Stepped (with_next a next) (with_next b next) e r) → b.next ≡ a.next → Stepped a b e r
+own-next a b e r all same = subst (λ c. Stepped a c e r) (ap (with_next b) (sym same)) (all a.next)
 
 -- ---- standings by their numbers
 module _ (c : Condition) (t : ℕ) where

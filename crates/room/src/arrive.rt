@@ -2,15 +2,17 @@
 ghost use Rattle.std.specs.Prelude.{◌≡◌, ◌<◌};
 ghost use Rattle.room.specs.Arrives.{arrive_report, arrive_standing};
 
-use crate::report::Report;
+use crate::report::{Outcome, Report, unsearched};
+use crate::standing::{DOOR, OUTSIDE};
+use fields::refusal::Refusal;
 
 pub fn arrive(standing: &mut [u8; 32], job: usize) -> Report
     requires { job < 32 }
     ensures { (result ≡ arrive_report standing.old job) × (standing.new ≡ arrive_standing standing.old job) }
 {
-    if standing[job] == 0 {
-        standing[job] = 1;
-        return Report::Accepted(0, 32, 0);
+    if standing[job] != OUTSIDE {
+        return Err(Refusal::WrongStanding);
     }
-    Report::Refused(5)
+    standing[job] = DOOR;
+    unsearched(Outcome::Done)
 }

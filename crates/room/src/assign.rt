@@ -4,7 +4,9 @@ ghost use Rattle.rules.specs.Limits.{value_most};
 ghost use Rattle.rules.specs.Laws.Bounds.{Within};
 ghost use Rattle.room.specs.Assigns.{inside_report, assign_values};
 
-use crate::report::Report;
+use crate::report::{Outcome, Report, unsearched};
+use crate::standing::INSIDE;
+use fields::refusal::Refusal;
 
 pub fn assign(
     values: &mut [i64; 8],
@@ -18,9 +20,9 @@ pub fn assign(
     requires fact_3 { Within value_most value }
     ensures { (result ≡ inside_report standing.now job) × (values.new ≡ assign_values standing.now values.old job variable value) }
 {
-    if standing[job] == 2 {
-        values[variable] = value;
-        return Report::Accepted(0, 32, 0);
+    if standing[job] != INSIDE {
+        return Err(Refusal::WrongStanding);
     }
-    Report::Refused(5)
+    values[variable] = value;
+    unsearched(Outcome::Done)
 }

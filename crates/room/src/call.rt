@@ -1,70 +1,33 @@
-// A search over those that wait; the job that it finds is called, and leaves the index.
-ghost use Rattle.condition.specs.Measures.{now_at};
-ghost use Rattle.condition.specs.Closing.{closed_slots};
-ghost use Rattle.room.specs.Arrays.{arrays};
+// A search over those that wait; the job that it finds is called, and leaves the index. The next ticket has no part in it, whatever it is.
+ghost use Rattle.std.specs.Prelude.{◌≡◌, ℕ};
+ghost use Rattle.condition.specs.Slots.{now_of};
+ghost use Rattle.room.specs.Rooms.{arrays_from};
 ghost use Rattle.room.specs.Kept.{Sound};
 ghost use Rattle.room.specs.Calls.{CallsNext};
 
-use index::part;
+use crate::standing::CALLED;
+use condition::slots::{Conditions, Shared};
+use index::Index;
 use search::{Answer, search};
-
-// How a called job stands (specs/Arrays.antt).
-const CALLED: u8 = 4;
 
 pub fn call_next(
     standing: &mut [u8; 32],
-    entry: &mut [u8; 32],
-    places: &mut [u8],
-    lengths: &mut [u8],
-    coefficients: &[i64; 128],
-    values: &[i64; 8],
+    index: &mut Index,
+    shared: &Shared,
     ticket: &[u32; 32],
-    alternatives: &[u8; 32],
-    atoms: &[u8; 128],
-    measure: &[u8; 512],
-    operator: &[u8; 512],
-    key: &[i64; 512],
-    high: &[u64; 128],
-    low: &[u64; 128],
+    conditions: &Conditions,
     measures: usize,
 ) -> Answer
-    requires { Sound (arrays coefficients.now values.now standing.old ticket.now (closed_slots alternatives.now atoms.now measure.now operator.now key.now)
-        entry.old high.now low.now places.old lengths.old measures 0) }
-    ensures { CallsNext (arrays coefficients.now values.now standing.old ticket.now
-        (closed_slots alternatives.now atoms.now measure.now operator.now key.now)
-        entry.old high.now low.now places.old lengths.old measures 0)
-        (now_at coefficients.now values.now) standing.new entry.new places.new lengths.new result }
+    requires { Sound (arrays_from shared.now standing.old ticket.now conditions.now index.old measures 0) }
+    ensures calls { (next : ℕ) → CallsNext (arrays_from shared.now standing.old ticket.now conditions.now index.old measures next)
+        (now_of shared.now) standing.new index.new.entry index.new.homes.places index.new.homes.lengths result }
+    ensures ranks { index.new.ranks ≡ index.old.ranks }
 {
-    let answer = search(
-        places,
-        lengths,
-        high,
-        low,
-        measures,
-        coefficients,
-        values,
-        atoms,
-        measure,
-        operator,
-        key,
-    );
+    let answer = search(index, measures, shared, conditions);
     let Answer::Calls(job, count) = answer else {
         return answer;
     };
-    part(
-        places,
-        lengths,
-        entry,
-        high,
-        low,
-        alternatives,
-        atoms,
-        measure,
-        operator,
-        key,
-        ticket,
-        job,
-    );
+    index.part(conditions, ticket, job);
     standing[job] = CALLED;
     Answer::Calls(job, count)
 }

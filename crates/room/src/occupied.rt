@@ -2,15 +2,10 @@
 ghost use Rattle.std.specs.Prelude.{◌≡◌};
 ghost use Rattle.room.specs.Occupied.{somebody};
 
+use crate::standing::INSIDE;
+
 pub fn occupied(standing: &[u8; 32]) -> bool
     ensures { result ≡ somebody standing.now 32 0 }
 {
-    let mut i: usize = 0;
-    while i < 32 {
-        if standing[i] == 2 {
-            return true;
-        }
-        i += 1;
-    }
-    false
+    standing.contains(&INSIDE)
 }

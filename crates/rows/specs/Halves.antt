@@ -1,4 +1,5 @@
--- Where the ranks of a row reach a word: halving keeps those below it on the left and the others on the right, so one place is left.
+-- Where the ranks of a row reach a word: halving keeps those below it on the left and the others on the right, so one place is left. The code
+-- has it halved by `partition_point` (Points).
 use Rattle.std.specs.Prelude.{◌≡◌, List, ℕ, ◌+◌, ◌%◌, ◌<◌, ◌≤◌, get_or}
 use Rattle.std.proofs.Common.{arith}
 use Rattle.rules.specs.Laws.Cases.{by_lt}

@@ -3,3 +3,5 @@ pub mod Places
 pub mod Slides
 pub mod Halves
 pub mod Words
+pub mod Shifts
+pub mod Points

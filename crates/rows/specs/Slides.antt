@@ -1,4 +1,4 @@
--- A node leaves a row: the hole goes down place by place, and no order is lost, whatever the ranks.
+-- A node leaves a row: a hole that goes down place by place loses no order, whatever the ranks. The code moves the rest at once (Shifts).
 use Rattle.std.specs.Prelude.{◌≡◌, List, ℕ, ◌+◌, ◌<◌, ◌≤◌, get_or, set, length}
 use Rattle.std.proofs.Math.Path.{ap}
 use Rattle.std.proofs.Common.{◌∙◌, get_or-set_other}

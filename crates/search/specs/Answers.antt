@@ -51,7 +51,7 @@ module _ (pair_at : ℕ → Pair) (now : List ℤ) (test : ℕ → Bool) where
           (λ t. rw (t, sym (e x (mathlib.Core.Logic.inl refl)) ∙ t) (λ i. Calls (sym (j x) i) (c i)))
           (λ t. rw (t, sym (e x (mathlib.Core.Logic.inl refl)) ∙ t) (go l n m (λ y h. e y (mathlib.Core.Logic.inr h)) c))
 
--- ---- the answers of `answer_of`
+-- ---- the answers of `Answer::from`
 pub as-found : {w : Walk} {node count : ℕ} → w ≡ walk.Found node count → Calls (node / 4) count ≡ as_answer w
 as-found e = ap as_answer (sym e)
 

@@ -17,3 +17,5 @@ pub mod Whole
 pub mod Rules
 pub mod Alike
 pub mod Indexed
+pub mod Structs
+pub mod Each

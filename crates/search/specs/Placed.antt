@@ -1,5 +1,6 @@
 -- Where a lead's node ranks, by its home: equality tags below the thresholds, each heap in a band of its own, those without a tag above them.
-use Rattle.std.specs.Prelude.{◌≡◌, true, ℕ, ◌+◌, ◌*◌, ◌^◌, ◌<◌, ◌≤◌}
+use Rattle.std.specs.Prelude.{Some, None, ◌≡◌, true, ℕ, ◌+◌, ◌*◌, ◌^◌, ◌<◌, ◌≤◌}
+use Rattle.std.specs.Prelude as contracts
 use Rattle.std.proofs.Common.{sym, ◌∙◌, arith}
 use Rattle.std.proofs.Math.Option.{Option, none, some}
 use Rattle.rules.specs.Condition.{Atom}
@@ -7,8 +8,6 @@ use Rattle.rules.specs.Tag.{is_equality}
 use Rattle.rules.specs.Rank.{is_upward}
 use Rattle.rules.specs.Laws.In.{by_bool}
 use Rattle.condition.specs.Tags.{tag_at, tag_means}
-use Rattle.condition.specs.declared.tag.Tag.{Tag}
-use Rattle.condition.specs.declared.tag.Tag.TheVariants.{At, Nowhere}
 use Rattle.ranks.specs.Words.{high_word, TagFits}
 use Rattle.ranks.specs.Biased.{biased-below}
 use Rattle.filing.specs.Homes.{home}
@@ -38,9 +37,9 @@ module _ (q : Searchable) where
   tag_below : (x : ℕ) → TagBelow q.measures (tag_for q x)
   tag_below x = go (tag_at q.slots.atoms q.slots.operator x)
     where
-      go : (t : Tag) → TagBelow q.measures (tag_means q.slots.measure q.slots.operator q.slots.key t)
-      go (At slot) = q.fit.measure slot
-      go Nowhere = tt
+      go : (t : contracts.Option ℕ) → TagBelow q.measures (tag_means q.slots.measure q.slots.operator q.slots.key t)
+      go (Some slot) = q.fit.measure slot
+      go None = tt
 
   abbrev pub word_for : ℕ → ℕ
   word_for = word_of q.high

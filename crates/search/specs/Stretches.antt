@@ -92,6 +92,12 @@ after-found before e = ap (counted_from before) (sym e)
 pub after-nobody : {u : Walk} {k : ℕ} (before : ℕ) → u ≡ Nobody k → Nobody (before + k) ≡ counted_from before u
 after-nobody before e = ap (counted_from before) (sym e)
 
+-- a walk that finds nobody counts at most so many more
+pub counted-most : (u : Walk) {r : Walk} (before most k : ℕ) → r ≡ counted_from before u → r ≡ Nobody k → count_of u ≤ most →
+    k ≤ before + most
+counted-most (Found x m) before most k t q h = absurd (found-not-nobody (sym t ∙ q))
+counted-most (Nobody m) before most k t q h = let c : k ≡ before + m = cc in omega arith
+
 -- so many lists one after the other, from number i on
 abbrev pub lists : (ℕ → List ℕ) → ℕ → ℕ → List ℕ
 lists f n i = gather f (from (λ j. j) n i)

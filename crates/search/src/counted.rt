@@ -1,12 +1,8 @@
 // A stretch of the search adds to what was evaluated before it.
-ghost use Rattle.std.specs.Prelude.{◌≡◌, ◌+◌, ◌≤◌};
+ghost use Rattle.std.specs.Prelude.{◌≡◌, ◌≤◌};
 ghost use Rattle.search.specs.Stretches.{counted_from, count_of};
 
-use condition::measure::measure_of;
-use drain::evaluate_heap;
-use filing::equality_word;
-use rows::first_at_least;
-use walk::{Walk, evaluate};
+use walk::Walk;
 
 // A walk with so many evaluated before it.
 pub fn counted(before: usize, walk: Walk) -> Walk

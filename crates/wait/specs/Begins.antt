@@ -30,19 +30,20 @@ use Rattle.room.specs.Kept.{Sound}
 use Rattle.room.specs.Standings.{standings-set, code-waiting}
 use Rattle.room.specs.Calls.{moved, CallsNext}
 use Rattle.room.specs.Tickets.{with_next, calls-next}
-use Rattle.room.specs.Reports.{meaning, search_report, search-not, Plain}
+use Rattle.room.specs.Reports.{Report, meaning, search_report, search-not, Plain}
 use Rattle.room.specs.Searches.{waiting_in, search-room, search-report, search-plain, search-others, search-held}
 use Rattle.room.specs.Joins.{MayJoin}
 use Rattle.room.specs.Assigns.{inside-test}
 use Rattle.wait.specs.Stored.{stored-sized, stored-fit, stored-counts, stored_same, stored-conditions, words_long, words-here, words-elsewhere}
 use Rattle.wait.specs.Waits.{GivenFit, Waited, waits_for, true-is}
-use Rattle.room.specs.declared.report.Report.{Report}
+use Rattle.room.specs.declared.report.Outcome.TheVariants as outcome
 
 give-call : (f : Option Pair) (r : Room) → give_ticket (call f r) ≡ call f (give_ticket r)
 give-call none r = refl
 give-call (some p) r = refl
 
-search-fills : (a : Arrays) (job : ℕ) (g : GivenSlots) (r : Answer) → store_waited a job g (meaning (search_report 2 r)) ≡ begun a job g
+search-fills : (a : Arrays) (job : ℕ) (g : GivenSlots) (r : Answer) →
+    store_waited a job g (meaning (search_report outcome.Waits r)) ≡ begun a job g
 search-fills a job g (Calls called count) = refl
 search-fills a job g (Nobody count) = refl
 
@@ -186,18 +187,19 @@ module _ (a : Arrays) (k : Sound a) (job : ℕ) (small : job < 32) (g : GivenSlo
         low = low-is i;
       }
 
-      pub begins : condition_true (now_at a.coefficients a.values) (waits_for a k job small g) ≡ false → {u : Report} → u ≡ search_report 2 r → Waited a b job g u
+      pub begins : condition_true (now_at a.coefficients a.values) (waits_for a k job small g) ≡ false →
+          {u : Report} → u ≡ search_report outcome.Waits r → Waited a b job g u
       begins f {u} e =
           let test = inside-test a k job small ∙ eq-eqb (get_or a.standing job 0) 2 inside in
           let no = true-is a k job small g inside (sym f) in
           let few = lt-leb tickets a.next left in
           record {
             stepped = record {
-              report = rw (test, no, few) (ap meaning e ∙ search-report a k st entry places lengths r n 2);
+              report = rw (test, no, few) (ap meaning e ∙ search-report a k st entry places lengths r n outcome.Waits);
               room = rw (test, no, few) new-room;
               sound = new-sound;
-              same = λ m o. absurd (search-not 2 r (sym e ∙ o));
-              plain = subst Plain (sym e) (search-plain a k st entry places lengths r n 2 (omega arith));
+              same = λ m o. absurd (search-not outcome.Waits r (sym e ∙ o));
+              plain = subst Plain (sym e) (search-plain a k st entry places lengths r n outcome.Waits);
             };
             store = new-store ∙ sym (ap (λ x. store_waited a job g (meaning x)) e ∙ search-fills a job g r);
           }

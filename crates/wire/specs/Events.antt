@@ -1,6 +1,7 @@
 -- An event is read in two parts, its head and, of a Wait, its numbers: together they are the rules' event, on every byte string from any
 -- place.
-use Rattle.std.specs.Prelude.{◌≡◌, refl, Bool, true, false, List, [], ◌∷◌, ℕ, ◌≤◌, eqb, ℤ, length, drop, if◌then◌else◌}
+use Rattle.std.specs.Prelude.{◌≡◌, refl, Bool, true, false, List, [], ◌∷◌, ℕ, ◌≤◌, eqb, ℤ, length, drop, if◌then◌else◌, Option, Some}
+use Rattle.std.specs.Prelude.{None, Result, Ok, Err}
 use Rattle.std.proofs.Common.{sym, ap, ◌∙◌, arith}
 use Rattle.rules.specs.Limits.{jobs, variables, value_most, kind_most, locals}
 use Rattle.rules.specs.Number.{Read, read, refused, pure, after, times, field, below, signed_field}
@@ -9,25 +10,31 @@ use Rattle.rules.specs.Record.{value, condition, of_kind, event}
 use Rattle.rules.specs.Step.{Event, arrive, admit, assign, wait, leave}
 use Rattle.rules.specs.Laws.Readers.{SoundReader, sound-field, sound-below, sound-signed}
 use Rattle.fields.specs.Answers.{place_of}
-use Rattle.wire.specs.Heads.{head_at, kind_read, job_read, set_head, variable_read, value_read}
+use Rattle.wire.specs.Heads.{head, there, head_at, kind_read, job_read, set_head, variable_read, value_read}
 use Rattle.fields.specs.Places.{at_place}
 use Rattle.wire.specs.WaitSlots.{Body, numbers}
+use Rattle.wire.specs.declared.head.Kind.{Kind}
+use Rattle.wire.specs.declared.head.Kind.TheVariants.{Arrive, Admit, Set, Wait, Leave}
 use Rattle.wire.specs.declared.head.Head.{Head}
-use Rattle.wire.specs.declared.head.Head.TheVariants.{Arrive, Admit, Set, Wait, Leave, Refused, Nothing}
 
 -- an event that was read, and what stands from the next place on
 abbrev ReadEvent : ℕ → List ℕ → List ℕ → Event → ℕ → Type 0
 ReadEvent measures bytes left e next = (event measures left ≡ read e (drop next bytes)) × (next ≤ length bytes)
 
--- what a head says of the rules' event in the bytes that are left, for a room with so many measures
-abbrev pub HeadMeans : ℕ → List ℕ → List ℕ → Head → Type 0
-HeadMeans measures bytes left (Arrive j next) = ReadEvent measures bytes left (arrive j) next
-HeadMeans measures bytes left (Admit j next) = ReadEvent measures bytes left (admit j) next
-HeadMeans measures bytes left (Set j v x next) = ReadEvent measures bytes left (assign j v x) next
-HeadMeans measures bytes left (Wait j next) = (event measures left ≡ after (numbers measures (drop next bytes)) (λ b. pure (wait j b.locals b.condition))) × (next ≤ length bytes)
-HeadMeans measures bytes left (Leave j next) = ReadEvent measures bytes left (leave j) next
-HeadMeans measures bytes left (Refused k) = event measures left ≡ refused k
-HeadMeans measures bytes left Nothing = left ≡ []
+-- what a head's kind says of the rules' event in the bytes that are left, for a room with so many measures
+abbrev pub KindMeans : ℕ → List ℕ → List ℕ → ℕ → ℕ → Kind → Type 0
+KindMeans measures bytes left j next Arrive = ReadEvent measures bytes left (arrive j) next
+KindMeans measures bytes left j next Admit = ReadEvent measures bytes left (admit j) next
+KindMeans measures bytes left j next (Set v x) = ReadEvent measures bytes left (assign j v x) next
+KindMeans measures bytes left j next Wait = (event measures left ≡ after (numbers measures (drop next bytes))
+    (λ b. pure (wait j b.locals b.condition))) × (next ≤ length bytes)
+KindMeans measures bytes left j next Leave = ReadEvent measures bytes left (leave j) next
+
+-- what a head says of it
+abbrev pub HeadMeans : ℕ → List ℕ → List ℕ → Result (Option Head) ℕ → Type 0
+HeadMeans measures bytes left (Ok (Some h)) = KindMeans measures bytes left h.job h.next h.kind
+HeadMeans measures bytes left (Ok None) = left ≡ []
+HeadMeans measures bytes left (Err k) = event measures left ≡ refused k
 
 -- the Wait's numbers, read field by field, are the head of a Wait and its body
 wait-is : (measures j : ℕ) (l : List ℕ) → after (times locals value l) (λ v rest. after (condition measures rest) (λ g. pure (wait j v g))) ≡ after (numbers measures l) (λ b. pure (wait j b.locals b.condition))
@@ -49,8 +56,8 @@ module _ (measures : ℕ) (bytes : List ℕ) (at : ℕ) where
   stands_at : {k : ℕ} {P : ℕ → Type 0} {p : List ℕ → Read ℕ} (s : SoundReader k P p) (from : ℕ) {n : ℕ} {rest : List ℕ} → p (drop from bytes) ≡ read n rest → (rest ≡ drop (place_of bytes rest) bytes) × (place_of bytes rest ≤ length bytes)
   stands_at s from {n} {rest} d = (at_place bytes from (s.gives (drop from bytes) n rest d).1, omega arith)
 
-  abbrev Means : Head → Type 0
-  Means = HeadMeans measures bytes left
+  abbrev Means : Result Head ℕ → Type 0
+  Means r = HeadMeans measures bytes left (there r)
 
   -- a Set's value, then its variable: `from` is where the field stands
   value-means : (job variable from : ℕ) (x : Read ℤ) → signed_field value_most (drop from bytes) ≡ x → event measures left ≡ after x (λ z. pure (assign job variable z)) → Means (value_read bytes job variable x)
@@ -72,11 +79,11 @@ module _ (measures : ℕ) (bytes : List ℕ) (at : ℕ) where
       else if t₄ then (λ l. after (times locals value l) (λ v more. after (condition measures more) (λ g. pure (wait job v g))))
       else pure (leave job)) rest →
       Means (
-      if t₁ then Arrive job (place_of bytes rest)
-      else if t₂ then Admit job (place_of bytes rest)
+      if t₁ then Ok (head Arrive job (place_of bytes rest))
+      else if t₂ then Ok (head Admit job (place_of bytes rest))
       else if t₃ then set_head bytes job rest
-      else if t₄ then Wait job (place_of bytes rest)
-      else Leave job (place_of bytes rest)
+      else if t₄ then Ok (head Wait job (place_of bytes rest))
+      else Ok (head Leave job (place_of bytes rest))
       )
   by_kind true t₂ t₃ t₄ job rest p w e = (e ∙ ap (read (arrive job)) p, w)
   by_kind false true t₃ t₄ job rest p w e = (e ∙ ap (read (admit job)) p, w)
@@ -96,9 +103,9 @@ module _ (measures : ℕ) (bytes : List ℕ) (at : ℕ) where
       let p = (stands_at (sound-field 3 1 kind_most (omega arith) (omega arith)) at d).0 in
       job-means kind (place_of bytes rest) (below jobs rest) (ap (below jobs) (sym p)) e
 
-  from-left : (l : List ℕ) → left ≡ l → Means (head_at bytes l)
+  from-left : (l : List ℕ) → left ≡ l → HeadMeans measures bytes left (head_at bytes l)
   from-left [] e = e
   from-left (b ∷ l) e = kind-means (field 3 1 kind_most (b ∷ l)) (ap (field 3 1 kind_most) e) (ap (event measures) e)
 
-  pub head-means : Means (head_at bytes left)
+  pub head-means : HeadMeans measures bytes left (head_at bytes left)
   head-means = from-left left refl

@@ -1,14 +1,13 @@
 -- The slots that a Wait's numbers go into, and what each holds of a Wait that was read: 0 where it has no part.
-use Rattle.std.specs.Prelude.{◌≡◌, List, ℕ, ◌*◌, ℤ, pos, length, set, replicate}
+use Rattle.std.specs.Prelude.{◌≡◌, List, ℕ, ◌*◌, ℤ, pos, length, set, replicate, Result, Ok, Err, OnOk}
 use Rattle.rules.specs.Limits.{locals}
 use Rattle.rules.specs.Number.{Read, read, refused, Reader, pure, ◌>>=◌, times}
 use Rattle.rules.specs.Condition.{Given}
 use Rattle.rules.specs.Record.{value, condition}
-use Rattle.fields.specs.Answers.{place_of}
+use Rattle.fields.specs.Answers.{place_of, numbered}
+use Rattle.fields.specs.declared.refusal.Refusal.{Refusal}
 use Rattle.wire.specs.Into.{put_all}
 use Rattle.wire.specs.Numbers.{put_numbers}
-use Rattle.fields.specs.declared.number.Number.{Number}
-use Rattle.fields.specs.declared.number.Number.TheVariants as number
 
 -- ---- one atom in its slot
 pub record AtomSlots : Type 0 where
@@ -63,9 +62,9 @@ numbers measures = do
   g ← condition measures
   pure (record { locals = l; condition = g })
 
-abbrev pub as_wait : List ℕ → Read Body → Number
-as_wait bytes (read b rest) = number.Got (length b.condition) (place_of bytes rest)
-as_wait bytes (refused k) = number.Refused k
+abbrev pub as_wait : List ℕ → Read Body → Result (ℕ × ℕ) ℕ
+as_wait bytes (read b rest) = Ok (length b.condition, place_of bytes rest)
+as_wait bytes (refused k) = Err k
 
 abbrev pub locals_of : Read Body → List ℤ
 locals_of (read b rest) = b.locals
@@ -75,5 +74,10 @@ abbrev pub slots_of : Read Body → WaitSlots
 slots_of (read b rest) = put_alternatives 0 no_slots b.condition
 slots_of (refused k) = no_slots
 
-abbrev pub ReadsWait : List ℕ → Read Body → Number → List ℤ → WaitSlots → Type 0
+abbrev pub ReadsWait : List ℕ → Read Body → Result (ℕ × ℕ) ℕ → List ℤ → WaitSlots → Type 0
 ReadsWait bytes x r l s = (r ≡ as_wait bytes x) × (l ≡ locals_of x) × (s ≡ slots_of x)
+
+-- the same, and nothing is said of the slots after a refusal: the caller clears them
+pub record ReadsBody (bytes : List ℕ) (x : Read Body) (r : Result (ℕ × ℕ) Refusal) (l : List ℤ) (s : WaitSlots) : Type 0 where
+  pub answers : numbered r ≡ as_wait bytes x
+  pub holds : OnOk r ((l ≡ locals_of x) × (s ≡ slots_of x))

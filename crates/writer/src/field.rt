@@ -1,50 +1,51 @@
 // Fields of a record that is being made. A number out of its range is refused as the reader refuses it, and nothing is stored.
 ghost use Rattle.std.specs.Prelude.{◌+◌, ◌<◌, ◌≤◌, length};
 ghost use Rattle.rules.specs.Writer.{write_field, write_below, write_signed};
+ghost use Rattle.fields.specs.Refusals.{refusal_number};
 ghost use Rattle.writer.specs.Puts.{Puts};
 
 use crate::number::put_number;
+use fields::refusal::Refusal;
 use integers::unsigned_of;
-use wire::place::Place;
 
-pub fn put_field(out: &mut [u8], at: usize, n: u64, low: u64, high: u64, refusal: u8) -> Place
+pub fn put_field(
+    out: &mut [u8],
+    at: usize,
+    n: u64,
+    low: u64,
+    high: u64,
+    refusal: Refusal,
+) -> Result<usize, Refusal>
     requires fact_1 { at + 5 ≤ length out.old }
     requires fact_2 { high < 4_294_967_296 }
-    ensures { Puts (write_field refusal low high n) out.old out.new at result }
+    ensures { Puts (write_field (refusal_number refusal) low high n) out.old out.new at result }
 {
-    if n < low {
-        return Place::Refused(refusal);
+    if n < low || high < n {
+        return Err(refusal);
     }
-    if high < n {
-        return Place::Refused(refusal);
-    }
-    let next = put_number(out, at, n);
-    Place::Next(next)
+    Ok(put_number(out, at, n))
 }
 
-pub fn put_below(out: &mut [u8], at: usize, n: u64, bound: u64) -> Place
+pub fn put_below(out: &mut [u8], at: usize, n: u64, bound: u64) -> Result<usize, Refusal>
     requires fact_1 { at + 5 ≤ length out.old }
     requires fact_2 { bound < 4_294_967_296 }
     ensures { Puts (write_below bound n) out.old out.new at result }
 {
     if bound <= n {
-        return Place::Refused(4);
+        return Err(Refusal::OutOfRange);
     }
-    let next = put_number(out, at, n);
-    Place::Next(next)
+    Ok(put_number(out, at, n))
 }
 
-// A signed number at most so far from 0: its distance is half of n, rounded up.
-pub fn put_signed(out: &mut [u8], at: usize, z: i64, most: u64) -> Place
+// A signed number at most so far from 0.
+pub fn put_signed(out: &mut [u8], at: usize, z: i64, most: u64) -> Result<usize, Refusal>
     requires fact_1 { at + 5 ≤ length out.old }
     requires fact_2 { most < 2_147_483_648 }
     ensures { Puts (write_signed most z) out.old out.new at result }
 {
     let n = unsigned_of(z);
-    let size = n / 2 + n % 2;
-    if most < size {
-        return Place::Refused(4);
+    if most < z.unsigned_abs() {
+        return Err(Refusal::OutOfRange);
     }
-    let next = put_number(out, at, n);
-    Place::Next(next)
+    Ok(put_number(out, at, n))
 }

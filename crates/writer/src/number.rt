@@ -11,10 +11,10 @@ pub fn put_number(out: &mut [u8], at: usize, n: u64) -> usize
 {
     let mut rest = n;
     let mut i = at;
+    // no plainer as a `for`: the number itself says how many groups it has, so no range of places does
     while 128 <= rest {
-        let group = rest % 128;
-        out[i] = group as u8 + 128;
-        rest = rest / 128;
+        out[i] = (rest % 128) as u8 + 128;
+        rest /= 128;
         i += 1;
     }
     out[i] = rest as u8;

@@ -7,7 +7,7 @@ ghost use Rattle.writer.specs.Openings.{row_given, values_given};
 
 use crate::field::put_field;
 use crate::numbers::put_numbers;
-use wire::place::Place;
+use fields::refusal::Refusal;
 
 // The coefficients of measure m stand from slot 8 * m on; those of measures that the count does not name are not looked at.
 pub fn put_opening(
@@ -15,24 +15,12 @@ pub fn put_opening(
     measures: u64,
     coefficients: &[i64; 128],
     values: &[i64; 8],
-) -> Place
+) -> Result<usize, Refusal>
     requires { 685 ≤ length out.old }
     ensures { Puts (write_opening (from (row_given coefficients.now) measures 0) (values_given values.now)) out.old out.new 0 result }
 {
-    let counted = put_field(out, 0, measures, 1, 16, 4);
-    let Place::Next(after_count) = counted else {
-        return counted;
-    };
-    let rows = put_numbers(
-        out,
-        after_count,
-        coefficients,
-        0,
-        measures as usize * 8,
-        100,
-    );
-    let Place::Next(after_rows) = rows else {
-        return rows;
-    };
-    put_numbers(out, after_rows, values, 0, 8, 1_000_000)
+    let after_count = put_field(out, 0, measures, 1, 16, Refusal::OutOfRange)?;
+    let rows = &coefficients[..measures as usize * 8];
+    let after_rows = put_numbers(out, after_count, rows, 100)?;
+    put_numbers(out, after_rows, values, 1_000_000)
 }

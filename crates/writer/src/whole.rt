@@ -1,37 +1,41 @@
 // A record that was made whole, into the unwritten rest of a lent buffer: its first byte is stored when nothing can be refused any more.
-ghost use Rattle.std.specs.Prelude.{◌≡◌, ℕ, ◌+◌, ◌≤◌, length};
-ghost use Rattle.std.proofs.lemmas.List.Edits.{sets};
-ghost use Rattle.writer.specs.Whole.{made_bytes, Copies, next_is};
+ghost use Rattle.std.specs.Prelude.{◌≡◌, ℕ, ◌≤◌};
+ghost use Rattle.std.specs.Fn.{FnOnceReturnsAtMut};
+ghost use Rattle.writer.specs.Whole.{Copies, Short, Recorded};
 
-use wire::place::Place;
-
-fn copy(out: &mut [u8], at: usize, made: &[u8; 704], n: usize)
-    requires fact_1 { at + n ≤ length out.old }
-    requires fact_2 { n ≤ 704 }
-    ensures { out.new ≡ sets out.old at (made_bytes made.now n) }
-{
-    let mut i = 0;
-    while i < n {
-        out[at + i] = made[i];
-        i += 1;
-    }
-}
+use fields::refusal::Refusal;
 
 // `made` is the place after the bytes that were made, or the refusal.
-pub fn finish(out: &mut [u8], at: usize, bytes: &[u8; 704], made: Place) -> Place
-    requires { (n : ℕ) → made ≡ next_is n → n ≤ 704 }
+#[tactic(auto, using(crate::specs::Whole::part_stored))]
+fn finish(
+    out: &mut [u8],
+    at: usize,
+    bytes: &[u8; 704],
+    made: Result<usize, Refusal>,
+) -> Result<usize, Refusal>
+    requires { (n : ℕ) → made ≡ Ok n → n ≤ 704 }
     ensures { Copies out.old out.new at bytes.now made result }
 {
-    let Place::Next(n) = made else {
-        return made;
-    };
+    let n = made?;
     let size = out.len();
-    if size < at {
-        return Place::Refused(9);
+    if size < at || size - at < n {
+        return Err(Refusal::NoSpace);
     }
-    if size - at < n {
-        return Place::Refused(9);
-    }
-    copy(out, at, bytes, n);
-    Place::Next(at + n)
+    out[at..at + n].copy_from_slice(&bytes[..n]);
+    Ok(at + n)
+}
+
+// What `make` puts into bytes of the writer's own, which have room for any record.
+pub fn write_record<F: FnOnce(&mut [u8; 704]) -> Result<usize, Refusal>>(
+    out: &mut [u8],
+    at: usize,
+    make: F,
+) -> Result<usize, Refusal>
+    requires callable { F.IsAlwaysCallable make }
+    requires short { Short (FnOnceReturnsAtMut F.FnOnce make) }
+    ensures { Recorded (FnOnceReturnsAtMut F.FnOnce make) out.old out.new at result }
+{
+    let mut bytes = [0; 704];
+    let made = make(&mut bytes);
+    finish(out, at, &bytes, made)
 }

@@ -11,10 +11,11 @@ part e w = held (subst (Within 400_000_000) (sym e) w) (omega arith)
 
 pub overflow_add-result : goal.overflow_add-result
 overflow_add-result c =
-    let w = local-within c.args.coefficients.now c.args.locals.now (c.args.slot * 4) c.requires.fact_2 c.requires.fact_3 in
-    add-fits (part c.local_part-part.ensures w) (held (c.requires.fact_4 _) (omega arith)) (omega arith)
+    let w = local-within c.args.given.now.coefficients c.args.given.now.locals (c.args.slot * 4) c.requires.fact_2 c.requires.fact_3 in
+    add-fits (part c.sum_of.ensures w) (held (c.requires.fact_4 _) (omega arith)) (omega arith)
 
 pub returns : goal.returns
 returns c =
-    let w = local-within c.args.coefficients.now c.args.locals.now (c.args.slot * 4) c.requires.fact_2 c.requires.fact_3 in
-    is (add-held (part c.local_part-part.ensures w) (held (c.requires.fact_4 c.args.slot) (omega arith)) (omega arith)) ∙ ap (λ z. z +ℤ get_or c.args.constant.now c.args.slot (pos 0)) c.local_part-part.ensures
+    let w = local-within c.args.given.now.coefficients c.args.given.now.locals (c.args.slot * 4) c.requires.fact_2 c.requires.fact_3 in
+    is (add-held (part c.sum_of.ensures w) (held (c.requires.fact_4 c.args.slot) (omega arith)) (omega arith))
+    ∙ ap (λ z. z +ℤ get_or c.args.given.now.constant c.args.slot (pos 0)) c.sum_of.ensures

@@ -1,10 +1,7 @@
 -- The best so far is the oldest of the jobs passed.
-use Rattle.std.proofs.Common.{◌≡◌, ◌-◌, ◌≤◌}
+use Rattle.std.proofs.Common.{◌≡◌}
 use Rattle.entries.specs.Oldest.{oldest_of}
 use Rattle.entries.proofs.oldest_of.Given as goal
 
 abbrev pub invariant-loop-k : goal.invariant-loop-k
-invariant-loop-k l = (l.k ≤ 32) × (l.best ≡ oldest_of l.entry l.ticket l.of l.k)
-
-abbrev pub decreases-loop-k : goal.decreases-loop-k
-decreases-loop-k l = 32 - l.k
+invariant-loop-k l = l.best ≡ oldest_of l.entry l.ticket l.of l.k

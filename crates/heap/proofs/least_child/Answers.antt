@@ -5,8 +5,8 @@ use Rattle.heap.proofs.least_child.Goals as goal
 pub returns-then-n-d : goal.returns-then-n-d
 returns-then-n-d c = only_child _ _ _ c.requires.fact_1 c.if-n-d.true
 
-pub returns-then-ranks_before : goal.returns-then-ranks_before
-returns-then-ranks_before c = right_child _ _ _ c.if-n-d.false c.ranks_before.ensures c.if-ranks_before.true
+pub returns-then-before : goal.returns-then-before
+returns-then-before c = right_child _ _ _ c.if-n-d.false c.before-2.ensures c.if-before.true
 
 pub returns : goal.returns
-returns c = left-child _ _ _ c.if-n-d.false c.ranks_before.ensures c.if-ranks_before.false
+returns c = left-child _ _ _ c.if-n-d.false c.before-2.ensures c.if-before.false

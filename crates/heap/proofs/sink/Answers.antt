@@ -2,8 +2,8 @@
 use Rattle.heap.specs.Sinks.{sink-more, sink-end}
 use Rattle.heap.proofs.sink.Goals as goal
 
-pub loop-i-preserved : goal.loop-i-preserved
-loop-i-preserved c = sink-more _ _ _ _ _ _ _ _ c.requires.fact_2 c.loop-i.invariant c.goes_down-c.ensures c.if-c-i.false
+pub loop-c-preserved : goal.loop-c-preserved
+loop-c-preserved c = sink-more _ _ _ _ _ _ _ c.requires.fact_2 c.loop-c.invariant c.in-Some.ensures
 
 pub returns : goal.returns
-returns c = sink-end _ _ _ _ _ _ _ _ c.requires.fact_2 c.loop-i.invariant c.goes_down-c.ensures c.if-c-i.true
+returns c = sink-end _ _ _ _ _ _ _ c.requires.fact_2 c.loop-c.invariant c.in_default.ensures

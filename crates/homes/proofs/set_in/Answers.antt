@@ -6,5 +6,5 @@ use Rattle.homes.proofs.set_in.Goals as goal
 pub returns-then-home-lt32 : goal.returns-then-home-lt32
 returns-then-home-lt32 c = search (rules, pushed-heap)
 
-pub returns : goal.returns
-returns c = search (rules, pushed_row)
+pub returns-else-home-lt32 : goal.returns-else-home-lt32
+returns-else-home-lt32 c = search (rules, pushed_row)

@@ -6,5 +6,5 @@ use Rattle.homes.proofs.take_out.Goals as goal
 pub returns-then-home-lt32 : goal.returns-then-home-lt32
 returns-then-home-lt32 c = search (rules, removed-heap)
 
-pub returns : goal.returns
-returns c = search (rules, removed-row)
+pub returns-else-home-lt32 : goal.returns-else-home-lt32
+returns-else-home-lt32 c = search (rules, removed-row)

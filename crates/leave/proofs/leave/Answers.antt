@@ -2,9 +2,12 @@
 use Rattle.leave.specs.Leaves.{leaves, leaves-not}
 use Rattle.leave.proofs.leave.Goals as goal
 
-pub returns-then-standing-job-eq2 : goal.returns-then-standing-job-eq2
-returns-then-standing-job-eq2 c next =
-    leaves _ c.requires.sound c.args.job c.requires.job_bound next _ _ _ _ _ c.call_next-answer.ensures c.if-standing-job-eq2.true c.searched.ensures
+pub returns-then-room-job-ne-INSIDE-clause-steps : goal.returns-then-room-job-ne-INSIDE-clause-steps
+returns-then-room-job-ne-INSIDE-clause-steps c next =
+    leaves-not _ c.requires.sound c.args.job c.requires.job_bound next c.if-room-job-ne-INSIDE.true
 
-pub returns : goal.returns
-returns c next = leaves-not _ c.requires.sound c.args.job c.requires.job_bound next c.if-standing-job-eq2.false
+pub returns-clause-steps : goal.returns-clause-steps
+returns-clause-steps c next =
+    rw c.call_next-answer.ensures.ranks
+    (leaves _ c.requires.sound c.args.job c.requires.job_bound next _ _ _ _ _
+    (c.call_next-answer.ensures.calls _) c.if-room-job-ne-INSIDE.false c.searched.ensures)

@@ -1,12 +1,16 @@
--- The half way place has less than the word, and so have those before it; or it has not, and so have those after it.
-use Rattle.std.proofs.Common.{arith}
-use Rattle.rows.specs.Halves.{between-right, between_left}
+-- The words of an ordered row are parted, and `partition_point` tells where.
+use Rattle.std.proofs.Common.{rules, of_calls, ltb}
+use Rattle.std.proofs.lemmas.Fn.{always_returns_same}
+use Rattle.rows.specs.Halves.{word_of}
+use Rattle.rows.specs.Points.{words-parted, point-reaches}
 use Rattle.rows.proofs.first_at_least.Goals as goal
 
-pub loop-a-preserved-then-word_of-word : goal.loop-a-preserved-then-word_of-word
-loop-a-preserved-then-word_of-word c =
-    between-right _ _ _ _ _ _ c.requires.ordered c.loop-a.invariant (omega arith) (omega arith) (rw c.word_of.ensures at c.if-word_of-word.true)
-
-pub loop-a-preserved : goal.loop-a-preserved
-loop-a-preserved c =
-    between_left _ _ _ _ _ _ c.requires.ordered c.loop-a.invariant (omega arith) (omega arith) (rw c.word_of.ensures at c.if-word_of-word.false)
+pub returns : goal.returns
+returns c =
+    let high = c.args.ranks.now.high in
+    let row = c.args.row.now in
+    let fits = c.requires.n_in_bounds_1 in
+    point-reaches (word_of high) c.args.word row c.args.n fits c.partition_point.result c.partition_point.ensures.bound
+    (c.partition_point.ensures.partitioned (λ y. ltb (word_of high y) c.args.word)
+    (always_returns_same _ _ _ (λ a r f k. search (rules, of_calls)))
+    (words-parted (word_of high) c.args.word row c.args.n fits c.requires.ordered))

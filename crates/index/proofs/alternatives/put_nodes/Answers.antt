@@ -1,7 +1,7 @@
 -- Each node adds one move to the moves so far, and its home has one node more.
-use Rattle.std.proofs.Common.{ℕ, ◌<◌, arith, rules}
-use Rattle.nodes.specs.Ranks.{rank}
-use Rattle.index.specs.Nodes.{home_of}
+use Rattle.std.proofs.Common.{rules, ◌≡◌, length, ◌<◌, arith, refl, ◌∙◌}
+use Rattle.nodes.specs.Structs.{rank_in}
+use Rattle.index.specs.Structs.{home_by}
 use Rattle.index.specs.Loops.{put_next, put-most, home-small}
 use Rattle.index.proofs.alternatives.put_nodes.Goals as goal
 
@@ -9,13 +9,12 @@ pub loop-i-preserved : goal.loop-i-preserved
 loop-i-preserved c =
     let a = c.args in
     let l = c.loop-i in
-    let r : ℕ → ℕ = rank a.high.now a.low.now in
-    let at : ℕ → ℕ = home_of a.atoms.now a.measure.now a.operator.now in
-    let one = home-small a.atoms.now a.measure.now a.operator.now _ c.home_of-to.ensures c.requires.places_len_4 in
-    let few : l.i < 4 = omega (arith, c.loop-i-test.true, c.count_of-count.ensures) in (
-      omega (arith, c.loop-i-test.true),
-      search rules,
-      search rules,
-      put-most r at a.job a.places.now a.lengths.now l.places l.lengths l.i few c.narrow-x.ensures c.home_of-to.ensures one l.invariant.2 _ _ 124 l.invariant.3 c.put.ensures,
-      put_next r at a.job a.places.now a.lengths.now l.places l.lengths l.i few c.narrow-x.ensures c.home_of-to.ensures one l.invariant.2 _ _ l.invariant.4 c.put.ensures,
+    let many : length l.homes.lengths ≡ 34 = l.invariant.1.many ∙ search rules in
+    let one = home-small a.conditions.now.atoms a.conditions.now.measure a.conditions.now.operator _ c.home_of.ensures
+    c.requires.job_bound_2 in
+    let few : l.i < 4 = omega (arith, c.loop-i-test.true, c.count_of-i-end.ensures) in (
+      put-most (rank_in a.ranks.now) (home_by a.conditions.now) a.job a.homes.now.places a.homes.now.lengths l.homes.places l.homes.lengths
+          l.i few refl c.home_of.ensures one many _ _ 124 l.invariant.0 c.put.ensures,
+      put_next (rank_in a.ranks.now) (home_by a.conditions.now) a.job a.homes.now.places a.homes.now.lengths l.homes.places l.homes.lengths
+          l.i few refl c.home_of.ensures one many _ _ l.invariant.1 c.put.ensures,
     )

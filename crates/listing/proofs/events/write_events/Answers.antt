@@ -1,23 +1,35 @@
 -- Each turn writes its event's line, and what is still to come falls.
-use Rattle.std.proofs.Common.{arith}
+use Rattle.std.proofs.Common.{sym, ◌∙◌, leb-true, leb-false}
 use Rattle.listing.specs.Runs.{accepted-less, run-accepts, refused-less, run-refuses, run-stops, run_ends}
+use Rattle.listing.proofs.events.write_events.Goals.{in-Ok, in-Err+else-is_last, in-Some+in-Err+then-is_last, in_default}
 use Rattle.listing.proofs.events.write_events.Goals as goal
 
-pub loop-outcome-smaller-in-Accepted : goal.loop-outcome-smaller-in-Accepted
-loop-outcome-smaller-in-Accepted c = accepted-less c.loop-outcome.invariant c.event-taken.ensures c.in-Accepted.is
+pub loop-taken-smaller : goal.loop-taken-smaller
+loop-taken-smaller c = elim c.match-taken.branch [
+  | in-Ok w ↦ accepted-less c.loop-taken.invariant c.event.ensures.takes c.in-Some.is w.in-Ok.is
+  | in-Err+else-is_last w ↦
+      refused-less c.loop-taken.invariant c.event.ensures.takes c.in-Some.is w.in-Err.is
+      (leb-false _ 4 (sym w.is_last.ensures ∙ w.if-is_last.false))
+]
 
-pub loop-outcome-preserved-in-Accepted : goal.loop-outcome-preserved-in-Accepted
-loop-outcome-preserved-in-Accepted c = run-accepts c.loop-outcome.invariant c.event-taken.ensures c.in-Accepted.is c.put_accepted-next.ensures
+pub loop-taken-preserved : goal.loop-taken-preserved
+loop-taken-preserved c = elim c.match-taken.branch [
+  | in-Ok w ↦
+      rw (w.out-is, w.next-is, w.before-is)
+      (run-accepts c.loop-taken.invariant c.event.ensures.takes c.in-Some.is w.in-Ok.is w.put_accepted-next.ensures)
+  | in-Err+else-is_last w ↦
+      rw (w.out-is, w.next-is, w.before-is)
+      (run-refuses c.loop-taken.invariant c.event.ensures.takes c.in-Some.is w.in-Err.is
+      (leb-false _ 4 (sym w.is_last.ensures ∙ w.if-is_last.false))
+      w.put_refused-next.ensures)
+]
 
 -- a refusal of 1 to 4 is the last event, and any other is not
-pub returns-then-refusal-le4 : goal.returns-then-refusal-le4
-returns-then-refusal-le4 c = run-stops c.loop-outcome.invariant c.event-taken.ensures c.in-Refused.is (omega arith) c.put_refused-next.ensures c.put_end.ensures
-
-pub loop-outcome-smaller : goal.loop-outcome-smaller
-loop-outcome-smaller c = refused-less c.loop-outcome.invariant c.event-taken.ensures c.in-Refused.is (omega arith)
-
-pub loop-outcome-preserved : goal.loop-outcome-preserved
-loop-outcome-preserved c = run-refuses c.loop-outcome.invariant c.event-taken.ensures c.in-Refused.is (omega arith) c.put_refused-next.ensures
-
-pub returns-in-Nothing : goal.returns-in-Nothing
-returns-in-Nothing c = run_ends c.loop-outcome.invariant c.event-taken.ensures c.in-Nothing.is c.put_end-in-Nothing.ensures
+pub returns : goal.returns
+returns c = elim c.match-event.branch [
+  | in-Some+in-Err+then-is_last w ↦
+      run-stops c.loop-taken.invariant c.event.ensures.takes w.in-Some.is w.in-Err.is
+      (leb-true _ 4 (sym w.is_last.ensures ∙ w.if-is_last.true))
+      w.put_refused-next.ensures (rw (w.out-is, w.next-is) at c.put_end.ensures)
+  | in_default w ↦ run_ends c.loop-taken.invariant c.event.ensures.takes w.in_default.is (rw (w.out-is, w.next-is) at c.put_end.ensures)
+]

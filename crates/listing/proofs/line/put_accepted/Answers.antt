@@ -5,5 +5,6 @@ use Rattle.listing.proofs.line.put_accepted.Goals as goal
 
 pub returns : goal.returns
 returns c =
-    let a = c.args in
-    writes-accepted a.number (outcome_of a.outcome) (job_in a.job) a.count c.put_decimal-after_number.ensures c.put_outcome-after_outcome.ensures c.put_job-after_job.ensures c.put_line.ensures
+    let a = c.args.accepted in
+    writes-accepted c.args.number (outcome_of a.outcome) (job_in a.called) a.evaluated
+    c.put_decimal-after_number.ensures c.put_outcome-after_outcome.ensures c.put_job-after_job.ensures c.put_line.ensures

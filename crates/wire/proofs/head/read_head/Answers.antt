@@ -1,27 +1,49 @@
 -- One law for each answer.
-use Rattle.wire.specs.Heads.{head-no-kind, head-no-job, head-arrive, head-admit, head-set, head-wait, head-leave}
+use Rattle.std.proofs.Common.{ap, sym, arith}
+use Rattle.fields.specs.Answers.{passed-on, numbered}
+use Rattle.wire.specs.Heads.{there, head-no-kind, head-no-job, head-arrive, head-admit, head-set, head-wait, head-leave}
 use Rattle.wire.proofs.head.read_head.Goals as goal
 
+pub returns-in_err-number : goal.returns-in_err-number
+returns-in_err-number c =
+    let e = c.from_residual in
+    passed-on e.result _ e.ensures.1 (head-no-kind c.args.bytes.now c.args.at c.if-bytes-at.false c.read_field.result
+    c.read_field.ensures c.in_err-number.was)
+
+pub returns-in_err-job : goal.returns-in_err-job
+returns-in_err-job c =
+    let e = c.from_residual-in_err-job in
+    passed-on e.result _ e.ensures.1 (head-no-job c.args.bytes.now c.args.at c.if-bytes-at.false c.read_field.result c.read_field.ensures
+    c.in_ok-number.was c.read_below.ensures c.in_err-job.was)
+
+pub returns-in-1 : goal.returns-in-1
+returns-in-1 c = head-arrive c.args.bytes.now c.args.at c.if-bytes-at.false c.read_field.result c.read_field.ensures c.in_ok-number.was
+    c.read_below.ensures c.in_ok-job.was c.in-1.is
+
+pub returns-in-2 : goal.returns-in-2
+returns-in-2 c = head-admit c.args.bytes.now c.args.at c.if-bytes-at.false c.read_field.result c.read_field.ensures c.in_ok-number.was
+    c.read_below.ensures c.in_ok-job.was c.in-2.is
+
+pub returns-in_err-read_set-in-3 : goal.returns-in_err-read_set-in-3
+returns-in_err-read_set-in-3 c =
+    let e = c.from_residual-in_err-read_set-in-3 in
+    passed-on e.result _ e.ensures.1
+    (head-set c.args.bytes.now c.args.at c.if-bytes-at.false c.read_field.result c.read_field.ensures c.in_ok-number.was
+    c.read_below.ensures c.in_ok-job.was c.in-3.is c.read_set.ensures
+    (sym (ap (λ r. there (numbered r)) c.in_err-read_set-in-3.was)))
+
+pub returns-in-3 : goal.returns-in-3
+returns-in-3 c =
+    head-set c.args.bytes.now c.args.at c.if-bytes-at.false c.read_field.result c.read_field.ensures c.in_ok-number.was
+    c.read_below.ensures c.in_ok-job.was c.in-3.is c.read_set.ensures
+    (sym (ap (λ r. there (numbered r)) c.in_ok-read_set-in-3.was))
+
+pub returns-in-4 : goal.returns-in-4
+returns-in-4 c = head-wait c.args.bytes.now c.args.at c.if-bytes-at.false c.read_field.result c.read_field.ensures c.in_ok-number.was
+    c.read_below.ensures c.in_ok-job.was c.in-4.is
+
 pub returns-in_default : goal.returns-in_default
-returns-in_default c = head-no-kind c.args.bytes.now c.args.at c.if-bytes-at.false c.read_field-first.ensures c.in_default.is c.refusal_of-refusal.ensures
-
-pub returns-in_default-second : goal.returns-in_default-second
-returns-in_default-second c = head-no-job c.args.bytes.now c.args.at c.if-bytes-at.false c.read_field-first.ensures c.in-Got.is c.read_below-second.ensures c.in_default-second.is c.refusal_of-refusal-in_default-second.ensures
-
-pub returns-then-kind-eq1 : goal.returns-then-kind-eq1
-returns-then-kind-eq1 c = head-arrive c.args.bytes.now c.args.at c.if-bytes-at.false c.read_field-first.ensures c.in-Got.is c.read_below-second.ensures c.in-Got-second.is c.if-kind-eq1.true
-
-pub returns-then-kind-eq2 : goal.returns-then-kind-eq2
-returns-then-kind-eq2 c = head-admit c.args.bytes.now c.args.at c.if-bytes-at.false c.read_field-first.ensures c.in-Got.is c.read_below-second.ensures c.in-Got-second.is c.if-kind-eq1.false c.if-kind-eq2.true
-
-pub returns-then-kind-eq3 : goal.returns-then-kind-eq3
-returns-then-kind-eq3 c =
-    head-set c.args.bytes.now c.args.at c.if-bytes-at.false c.read_field-first.ensures c.in-Got.is c.read_below-second.ensures c.in-Got-second.is c.if-kind-eq1.false c.if-kind-eq2.false c.if-kind-eq3.true c.read_set.ensures
-
-pub returns-then-kind-eq4 : goal.returns-then-kind-eq4
-returns-then-kind-eq4 c =
-    head-wait c.args.bytes.now c.args.at c.if-bytes-at.false c.read_field-first.ensures c.in-Got.is c.read_below-second.ensures c.in-Got-second.is c.if-kind-eq1.false c.if-kind-eq2.false c.if-kind-eq3.false c.if-kind-eq4.true
-
-pub returns : goal.returns
-returns c =
-    head-leave c.args.bytes.now c.args.at c.if-bytes-at.false c.read_field-first.ensures c.in-Got.is c.read_below-second.ensures c.in-Got-second.is c.if-kind-eq1.false c.if-kind-eq2.false c.if-kind-eq3.false c.if-kind-eq4.false
+returns-in_default c =
+    let h = c.in_default in
+    head-leave c.args.bytes.now c.args.at c.if-bytes-at.false c.read_field.result c.read_field.ensures c.in_ok-number.was
+    c.read_below.ensures c.in_ok-job.was (omega arith) (omega arith) (omega arith) (omega arith)

@@ -1,12 +1,19 @@
 -- The record is made whole, and it has room in the bytes it is made in.
-use Rattle.std.proofs.Common.{arith}
-use Rattle.writer.specs.Puts.{near}
+use Rattle.std.proofs.Common.{rules, arith}
+use Rattle.rules.specs.Writer.{write_opening}
+use Rattle.condition.specs.From.{from}
+use Rattle.writer.specs.Puts.{Puts, near}
+use Rattle.writer.specs.Openings.{row_given, values_given}
 use Rattle.writer.specs.Short.{opening-short}
-use Rattle.writer.specs.Whole.{writes}
+use Rattle.writer.specs.Whole.{recorded}
 use Rattle.writer.proofs.records.write_opening.Goals as goal
 
-pub finish-requires : goal.finish-requires
-finish-requires c = λ n e. omega (arith, near c.put_opening-made.ensures 704 (opening-short c.args.coefficients.now c.args.values.now c.args.measures) e)
+pub write_record-requires-clause-short : goal.write_record-requires-clause-short
+write_record-requires-clause-short c = λ zeros made place gave n e.
+    let a = c.args in
+    let puts : Puts (write_opening (from (row_given a.coefficients.now) a.measures 0) (values_given a.values.now)) zeros made 0 place =
+    search rules in
+    omega (arith, near puts 704 (opening-short a.coefficients.now a.values.now a.measures) e)
 
 pub returns : goal.returns
-returns c = writes c.put_opening-made.ensures (opening-short c.args.coefficients.now c.args.values.now c.args.measures) c.finish.ensures
+returns c = let a = c.args in recorded c.write_record.ensures (search rules) (opening-short a.coefficients.now a.values.now a.measures)

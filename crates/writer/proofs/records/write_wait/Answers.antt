@@ -1,16 +1,19 @@
 -- The record is made whole, and it has room in the bytes it is made in.
-use Rattle.std.proofs.Common.{arith}
-use Rattle.writer.specs.Puts.{near}
+use Rattle.std.proofs.Common.{rules, arith}
+use Rattle.rules.specs.Step.{wait}
+use Rattle.rules.specs.Writer.{write_event}
+use Rattle.writer.specs.Puts.{Puts, near}
+use Rattle.writer.specs.Givens.{locals_of, condition_of}
 use Rattle.writer.specs.Short.{wait-short}
-use Rattle.writer.specs.Whole.{writes}
+use Rattle.writer.specs.Whole.{recorded}
 use Rattle.writer.proofs.records.write_wait.Goals as goal
 
-pub finish-requires : goal.finish-requires
-finish-requires c =
+pub write_record-requires-clause-short : goal.write_record-requires-clause-short
+write_record-requires-clause-short c = λ zeros made place gave n e.
     let a = c.args in
-    λ n e. omega (arith, near c.put_wait-made.ensures 704 (wait-short a.measures a.job a.locals.now a.counts.now a.measure.now a.operator.now a.coefficients.now a.constant.now a.count) e)
+    let puts : Puts (write_event a.measures (wait a.job (locals_of a.given.now) (condition_of a.given.now a.count))) zeros made 0 place =
+    search rules in
+    omega (arith, near puts 704 (wait-short a.measures a.job a.given.now a.count) e)
 
 pub returns : goal.returns
-returns c =
-    let a = c.args in
-    writes c.put_wait-made.ensures (wait-short a.measures a.job a.locals.now a.counts.now a.measure.now a.operator.now a.coefficients.now a.constant.now a.count) c.finish.ensures
+returns c = let a = c.args in recorded c.write_record.ensures (search rules) (wait-short a.measures a.job a.given.now a.count)

@@ -1,0 +1,2 @@
+-- A Wait's slots as closure takes them.
+pub mod Slots

@@ -1,0 +1,2 @@
+-- What the proofs of the code cite.
+pub mod Laws
