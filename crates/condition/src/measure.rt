@@ -8,7 +8,7 @@ ghost use Rattle.condition.specs.Slots.{now_of};
 use crate::slots::Shared;
 
 // The sum of coefficient times value, for the coefficients from a place on: of a measure, or of a Wait's atom with its local values. It
-// stays within ±800,000,000, so nothing wraps.
+// stays within ±800,000,000, so nothing wraps. No `zip` and `sum`: tried, and that no sum along the way wraps did not close.
 pub fn sum_of<const N: usize>(coefficients: &[i64], first: usize, values: &[i64; N]) -> i64
     requires fact_1 { N ≤ 8 }
     requires fact_2 { first + N ≤ length coefficients.now }

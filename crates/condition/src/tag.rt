@@ -7,7 +7,8 @@ ghost use Rattle.condition.specs.Tags.{first_at, between, tag_at, tag_means};
 use crate::slots::{Conditions, Shared};
 use crate::truth::count_of;
 
-// The first of so many slots whose operator is from low to high.
+// The first of so many slots whose operator is from low to high. Operators are numbers here (compare.rt). A `for` and no `find`, here and
+// where atoms and alternatives are gone through: with a closure each proof has one law more and no line less.
 fn first_between(
     operator: &[u8; 512],
     first: usize,

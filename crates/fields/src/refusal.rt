@@ -18,6 +18,7 @@ pub enum Refusal {
     NoSpace,
 }
 
+// A table, and no numbers on the variants with a cast: so two that are given one number are a wrong table, and no error of the language.
 impl From<Refusal> for u8 {
     ghost from_gives = { λ r k. k ≡ refusal_number r };
 

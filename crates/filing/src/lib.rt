@@ -18,7 +18,7 @@ use condition::slots::Conditions;
 use nodes::Ranks;
 use ranks::{high_word, low_word, no_tag_word};
 
-// The home of a node's alternative.
+// The home of a node's alternative. Operators and homes are numbers: slots hold any operator, and all homes stand in one array.
 #[tactic(auto, using(crate::proofs::Laws::home_laws))]
 pub fn home_of(conditions: &Conditions, node: usize) -> usize
     requires fact_1 { node < 128 }

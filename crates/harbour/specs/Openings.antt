@@ -21,7 +21,7 @@ pub record OpensRoom (bytes : List ℕ) (r : Opened) (a : Arrays) : Type 0 where
   pub tells : r ≡ told_opening (as_opening bytes (opening bytes))
   pub opens : a ≡ empty_with (coefficients_of (opening bytes)) (values_of (opening bytes)) r.measures
 
--- ---- the answers of `told_opening`
+-- ---- the answers of `Opened`'s `from`
 pub told-got : {x : Result (ℕ × ℕ) ℕ} {n place : ℕ} → x ≡ Ok (n, place) → opened_numbers 0 n place ≡ told_opening x
 told-got e = ap told_opening (sym e)
 

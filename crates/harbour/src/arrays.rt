@@ -1,4 +1,4 @@
-// An opening and an event over the arrays of a room, told in a host's numbers.
+// An opening and an event of a room, told in a host's numbers: what `harbour_open` and `harbour_event` do, named in docs/PROMISES.md.
 ghost use Rattle.room.specs.Kept.{Kept};
 ghost use Rattle.harbour.specs.Rooms.{arrays_of};
 ghost use Rattle.harbour.specs.Openings.{OpensRoom};

@@ -85,6 +85,7 @@ pub fn told(answer: Option<Taken>) -> Report
     }
 }
 
+// Of C's report again, since `note` may be given any.
 fn calls(job: u8) -> u64
     ensures { result ≡ ones (job_at job) }
 {

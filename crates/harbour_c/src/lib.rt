@@ -1,5 +1,5 @@
 // What a host links, in C or in any language that calls C: each export calls the function of its name in `harbour`, and states its
-// clauses.
+// clauses. A crate is a library or an archive for C, so the two stand apart.
 #![tactic(auto)]
 
 ghost use Rattle.room.specs.Kept.{Kept};

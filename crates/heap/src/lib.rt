@@ -1,5 +1,6 @@
-// A binary heap of nodes over a lent slice (figure 4 of the paper): its first n places hold nodes, and none ranks before the one above it.
-// Place i has its children at 2 * i + 1 and 2 * i + 2. Nodes go in and out; a hole moves along the way, so each step is one store.
+// A binary heap of nodes over a lent slice (figure 4 of the paper): its first n places hold nodes, and none ranks before the one above
+// it. The slice is longer than n: a node that joins stands at place n. Place i has its children at 2 * i + 1 and 2 * i + 2. Nodes go in
+// and out; a hole moves along the way, so each step is one store.
 #![tactic(auto)]
 
 ghost use Rattle.std.specs.Prelude.{◌+◌, ◌*◌, ◌<◌, ◌≤◌, length};

@@ -19,7 +19,8 @@ pub struct Homes {
     pub lengths: [u8; 34],
 }
 
-// One node more among the first n places of a home: x.
+// One node more among the first n places of a home: x. Two functions ask whether a home is a heap or a row, this and the next; a trait
+// over the two would be chosen by the same test.
 fn set_in(places: &mut [u8], ranks: &Ranks, home: usize, n: usize, x: u8)
     requires { n < length places.old }
     ensures { Pushed (over home) (rank_in ranks.now) places.old places.new n x }

@@ -12,7 +12,7 @@ ghost use Rattle.condition.specs.Slots.{atom_of, alternative_of, condition_of};
 use condition::slots::Conditions;
 use condition::truth::count_of;
 
-// Two atoms, by their slots.
+// Two atoms, by their slots. No comparison of two structs or tuples: a key is read only where measure and operator are the same.
 fn same_atom(conditions: &Conditions, one: usize, other: usize) -> bool
     requires fact_1 { one < 512 }
     requires fact_2 { other < 512 }

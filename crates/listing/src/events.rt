@@ -11,14 +11,14 @@ use event::event;
 use fields::refusal::Refusal;
 use room::room::Room;
 
-// Refused with 1 to 4, the bytes were no event, so nothing after them can be read.
+// Refused with 1 to 4, the bytes were no event, so nothing after them can be read: document 01 says it in numbers.
 fn is_last(refusal: Refusal) -> bool
     ensures { result ≡ leb (refusal_number refusal) 4 }
 {
     u8::from(refusal) <= 4
 }
 
-// The events stand in the input from `from` on.
+// The events stand in the input from `from` on. They end where no event is left, so they are counted by hand.
 pub fn write_events(out: &mut [u8], room: &mut Room, input: &[u8], from: usize, at: usize) -> usize
     requires { Kept (arrays_of room.old) }
     ensures { Writes (output out.old at) (output out.new result) (lines_from input.now from 1 0 (arrays_of room.old)) }

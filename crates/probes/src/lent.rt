@@ -1,4 +1,5 @@
-// The structs that the functions under the probes take, over copies of lent arrays: C lends each array for itself.
+// The structs that the functions under the probes take, over copies of lent arrays: C lends each array for itself. An array that a
+// function does not read is lent as zeros.
 ghost use Rattle.std.specs.Prelude.{◌≡◌, length};
 
 use condition::slots::{Conditions, Shared};

@@ -41,7 +41,8 @@ fn pack(class: u64, measure: u64, direction: u64, key: u64, strict: u64) -> u64
     class * CLASS + measure * MEASURE + direction * DIRECTION + key * 2 + strict
 }
 
-// The high word of an alternative with this tag; operator 1 is =, 5 and 6 are > and ≥; 3 and 5, < and >, are strict.
+// The high word of an alternative with this tag, for any operator that a slot may hold; operator 1 is =, 5 and 6 are > and ≥; 3 and 5, <
+// and >, are strict.
 #[tactic(auto, unfolding(crate::specs::Words::high_word))]
 pub fn high_word(measure: u8, operator: u8, key: i64) -> u64
     requires { (measure < 16) × Within key_room key }

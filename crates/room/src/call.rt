@@ -10,6 +10,7 @@ use condition::slots::{Conditions, Shared};
 use index::Index;
 use search::{Answer, search};
 
+// Lent the parts of a room that it reads or changes, so that the types say what it leaves alone.
 pub fn call_next(
     standing: &mut [u8; 32],
     index: &mut Index,

@@ -1,5 +1,7 @@
-// The slots that a Wait's numbers go into: its local values, the atom count of each alternative, and its atoms. Alternative i has its atom
-// count in slot i, and its atom j stands in slot 4 * i + j, with its coefficients from 4 times that slot on.
+// The slots that a Wait's numbers go into: its local values, the atom count of each alternative, and its atoms. Alternative i has its
+// atom count in slot i, and its atom j stands in slot 4 * i + j, with its coefficients from 4 times that slot on. The alternative count
+// is not among them: the writer is given it as any number, and refuses one past four. Array beside array, as in a room, so that closing
+// copies them whole.
 ghost use Rattle.std.specs.Prelude.{◌≡◌};
 ghost use Rattle.wire.specs.WaitSlots.{no_locals, no_slots};
 ghost use Rattle.wire.specs.Givens.{slots_of_given};

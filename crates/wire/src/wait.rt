@@ -18,12 +18,7 @@ impl Given {
     fn clear(&mut self)
         ensures { (self.new.locals ≡ no_locals) × (slots_of_given self.new ≡ no_slots) }
     {
-        self.locals.fill(0);
-        self.counts.fill(0);
-        self.measure.fill(0);
-        self.operator.fill(0);
-        self.coefficients.fill(0);
-        self.constant.fill(0);
+        *self = Given::empty();
     }
 
     // One atom, into its slot.

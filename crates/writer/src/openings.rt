@@ -10,6 +10,7 @@ use crate::numbers::put_numbers;
 use fields::refusal::Refusal;
 
 // The coefficients of measure m stand from slot 8 * m on; those of measures that the count does not name are not looked at.
+// Coefficients and values apart, as `read_opening` gives them.
 pub fn put_opening(
     out: &mut [u8],
     measures: u64,

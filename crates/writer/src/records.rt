@@ -30,6 +30,7 @@ pub fn write_opening(
     )
 }
 
+// This, Admit and Leave differ in their kind alone. They are three, since hosts call them by name; each is one call of `write_record`.
 pub fn write_arrive(out: &mut [u8], at: usize, measures: u64, job: u64) -> Result<usize, Refusal>
     ensures { Writes (write_event measures (arrive job)) out.old out.new at result }
 {
