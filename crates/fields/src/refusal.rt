@@ -1,6 +1,7 @@
 // Refusals: why a stream, or what it holds, is not taken, each with its number in document 01.
-ghost use Rattle.std.specs.Prelude.{◌≡◌};
+ghost use Rattle.std.specs.Prelude.{◌≡◌, Some};
 ghost use Rattle.fields.specs.Refusals.{refusal_number, Numbers};
+ghost use Rattle.fields.specs.Texts.{refusal_text, no_refusal_text};
 
 use std::error::Error;
 use std::fmt;
@@ -63,22 +64,26 @@ impl TryFrom<u8> for Refusal {
 }
 
 impl fmt::Display for Refusal {
+    ghost output = { λ refusal. Some (refusal_text refusal) };
+
     fn fmt<W: fmt::Write>(&self, f: &mut fmt::Formatter<W>) -> fmt::Result {
-        f.write_str(match self {
-            Refusal::CutShort => "the bytes end inside a record",
-            Refusal::BadNumber => "a number is written badly",
-            Refusal::Unknown => "a kind or an operator is unknown",
-            Refusal::OutOfRange => "a number is out of range",
-            Refusal::WrongStanding => "the job does not stand where this needs it",
-            Refusal::Occupied => "another job is inside",
-            Refusal::NoTicket => "no ticket is left",
-            Refusal::TooLong => "the input is too long",
-            Refusal::NoSpace => "what is written does not fit",
-        })
+        match self {
+            Refusal::CutShort => f.write_str("the bytes end inside a record"),
+            Refusal::BadNumber => f.write_str("a number is written badly"),
+            Refusal::Unknown => f.write_str("a kind or an operator is unknown"),
+            Refusal::OutOfRange => f.write_str("a number is out of range"),
+            Refusal::WrongStanding => f.write_str("the job does not stand where this needs it"),
+            Refusal::Occupied => f.write_str("another job is inside"),
+            Refusal::NoTicket => f.write_str("no ticket is left"),
+            Refusal::TooLong => f.write_str("the input is too long"),
+            Refusal::NoSpace => f.write_str("what is written does not fit"),
+        }
     }
 }
 
 impl fmt::Display for NoRefusal {
+    ghost output = { λ none. Some (no_refusal_text none) };
+
     fn fmt<W: fmt::Write>(&self, f: &mut fmt::Formatter<W>) -> fmt::Result {
         write!(f, "no refusal has number {}", self.0)
     }
