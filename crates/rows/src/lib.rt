@@ -34,13 +34,16 @@ pub fn insert(row: &mut [u8], ranks: &Ranks, n: usize, x: u8)
     rise::<Row>(row, ranks, n + 1, n, x);
 }
 
-// The node at place k leaves n + 1 nodes: those after it move one place down.
+// The node at place k leaves n + 1 nodes: those after it move one place down. One store at a time and no `copy_within`, which calls C's
+// `memmove`: a host brings `memcpy` and `memset` and no more.
 pub fn remove(row: &mut [u8], n: usize, k: usize)
     requires fact_1 { k ≤ n }
     requires fact_2 { n < length row.old }
     ensures { (rank : ℕ → ℕ) → Removed previous rank row.old row.new n k }
 {
-    row.copy_within(k + 1..n + 1, k);
+    for i in k..n {
+        row[i] = row[i + 1];
+    }
 }
 
 // The first of n places whose node's first word is not less than `word`, or n.
