@@ -1,7 +1,7 @@
 -- What is made of the bytes of a record, from a place on: what the rules write, and the place after it; or the refusal. After a refusal
 -- nothing is said of what
 -- stands there: nobody reads it.
-use Rattle.std.specs.Prelude.{◌≡◌, refl, Bool, true, false, ◌&&◌, List, [], ◌∷◌, ◌++◌, ℕ, zero, suc, ◌+◌, ◌*◌, ◌/◌, ◌%◌, ◌≤◌, ◌<◌, leb, ltb, ℤ, nat_abs, length, set, Result, Ok, Err, IsErrAnd}
+use Rattle.std.specs.Prelude.{◌≡◌, refl, Bool, true, false, ◌&&◌, List, [], ◌∷◌, ◌++◌, ℕ, zero, suc, ◌+◌, ◌*◌, ◌/◌, ◌%◌, ◌≤◌, ◌<◌, leb, ltb, ℤ, nat_abs, length, set, Result, Ok, Err, IsErrAnd, if◌then◌else◌}
 use Rattle.std.proofs.Common.{sym, ap, ◌∙◌, subst, add-zero, suc-mul, arith, length-append, to_z, of_z, le-leb, lt-ltb, le-ltb}
 use Rattle.std.specs.Int.Signed.{mag}
 use Rattle.std.specs.Int.{w64}
@@ -29,6 +29,33 @@ pub record Puts (w : Written) (out out' : List ℕ) (at : ℕ) (r : Result ℕ R
   pub stored : (l : List ℕ) → w ≡ written l → out' ≡ sets out at l
   pub long : length out' ≡ length out
 
+-- ---- the same of an answer whose refusal may be of any type, in a numbering of that type
+abbrev pub numbered_by : {E : Type 0} → (E → ℕ) → Result ℕ E → Result ℕ ℕ
+numbered_by number (Ok n) = Ok n
+numbered_by number (Err e) = Err (number e)
+
+pub record PutsBy {E : Type 0} (number : E → ℕ) (w : Written) (out out' : List ℕ) (at : ℕ) (r : Result ℕ E) : Type 0 where
+  pub place : numbered_by number r ≡ place_after at w
+  pub stored : (l : List ℕ) → w ≡ written l → out' ≡ sets out at l
+  pub long : length out' ≡ length out
+
+-- one of the nine refusals, by its number in document 01, is what `Puts` says
+refusal_numbered : (r : Result ℕ Refusal) → numbered r ≡ numbered_by refusal_number r
+refusal_numbered (Ok n) = refl
+refusal_numbered (Err e) = refl
+
+pub puts-numbered : {w : Written} {out out' : List ℕ} {at : ℕ} {r : Result ℕ Refusal} → PutsBy refusal_number w out out' at r →
+    Puts w out out' at r
+puts-numbered {r = r} p = record { place = refusal_numbered r ∙ p.place; stored = p.stored; long = p.long }
+
+-- a plain number stands for itself, whatever it is
+plain_numbered : (r : Result ℕ ℕ) → r ≡ numbered_by (λ k. k) r
+plain_numbered (Ok n) = refl
+plain_numbered (Err k) = refl
+
+pub plain-place : {w : Written} {out out' : List ℕ} {at : ℕ} {r : Result ℕ ℕ} → PutsBy (λ k. k) w out out' at r → r ≡ place_after at w
+plain-place {r = r} p = plain_numbered r ∙ p.place
+
 -- of a signed number, as the machine hands it on
 pub puts-signed : (most : ℕ) (z : ℤ) {out out' : List ℕ} {at : ℕ} {r : Result ℕ Refusal} → mag z < 9223372036854775808 →
     Puts (write_signed most (to_z w64 (of_z w64 z))) out out' at r → Puts (write_signed most z) out out' at r
@@ -44,31 +71,72 @@ module _ (out out' : List ℕ) (at next refusal n : ℕ) where
     long = ap length s ∙ length-sets out at (number_bytes n);
   }
 
-module _ (out : List ℕ) (at : ℕ) (refusal : Refusal) (n : ℕ) where
-  puts-refused : (t : Bool) → t ≡ false → Puts (write_only t (refusal_number refusal) n) out out at (Err refusal)
-  puts-refused t e = record {
-    place = sym (ap (λ u. place_after at (write_only u (refusal_number refusal) n)) e);
-    stored = λ l d. written-not (sym (ap (λ u. write_only u (refusal_number refusal) n) e) ∙ d);
+module _ {E : Type 0} (number : E → ℕ) (out : List ℕ) (at : ℕ) (refusal : E) (n : ℕ) where
+  refused-by : (t : Bool) → t ≡ false → PutsBy number (write_only t (number refusal) n) out out at (Err refusal)
+  refused-by t e = record {
+    place = sym (ap (λ u. place_after at (write_only u (number refusal) n)) e);
+    stored = λ l d. written-not (sym (ap (λ u. write_only u (number refusal) n) e) ∙ d);
     long = refl;
   }
+
+module _ (out : List ℕ) (at : ℕ) (refusal : Refusal) (n : ℕ) where
+  puts-refused : (t : Bool) → t ≡ false → Puts (write_only t (refusal_number refusal) n) out out at (Err refusal)
+  puts-refused t e = puts-numbered (refused-by refusal_number out at refusal n t e)
 
 -- ---- by the code's tests
 pub both_false : (t : Bool) → (t && false) ≡ false
 both_false true = refl
 both_false false = refl
 
-module _ (out : List ℕ) (at n low high : ℕ) (refusal : Refusal) where
-  pub field-low : n < low → Puts (write_field (refusal_number refusal) low high n) out out at (Err refusal)
-  field-low h = puts-refused out at refusal n (leb low n && leb n high) (ap (λ t. t && leb n high) (lt-leb low n h))
+-- whatever is refused, and however it is numbered
+module _ {E : Type 0} (number : E → ℕ) (out : List ℕ) (at n low high : ℕ) (refusal : E) where
+  pub field-low : n < low → PutsBy number (write_field (number refusal) low high n) out out at (Err refusal)
+  field-low h = refused-by number out at refusal n (leb low n && leb n high) (ap (λ t. t && leb n high) (lt-leb low n h))
 
-  pub field-high : high < n → Puts (write_field (refusal_number refusal) low high n) out out at (Err refusal)
-  field-high h = puts-refused out at refusal n (leb low n && leb n high)
+  pub field-high : high < n → PutsBy number (write_field (number refusal) low high n) out out at (Err refusal)
+  field-high h = refused-by number out at refusal n (leb low n && leb n high)
       (ap (λ t. leb low n && t) (lt-leb n high h) ∙ both_false (leb low n))
 
 module _ (out : List ℕ) (at n low high refusal : ℕ) where
   pub field_put : (out' : List ℕ) (next : ℕ) → low ≤ n → n ≤ high → out' ≡ sets out at (number_bytes n) →
       next ≡ at + length (number_bytes n) → Puts (write_field refusal low high n) out out' at (Ok next)
   field_put out' next l h = puts-number out out' at next refusal n (leb low n && leb n high) (λ i. le-leb low n l i && le-leb n high h i)
+
+-- ---- a field: of a number in range its bytes and the place after them; else the refusal given, of whatever type, and nothing is stored
+pub record PutsField {E : Type 0} (refusal : E) (low high n : ℕ) (out out' : List ℕ) (at : ℕ) (r : Result ℕ E) : Type 0 where
+  pub place : r ≡ (if leb low n && leb n high then Ok (at + length (number_bytes n)) else Err refusal)
+  pub bytes : out' ≡ (if leb low n && leb n high then sets out at (number_bytes n) else out)
+
+module _ {E : Type 0} {refusal : E} {low high n : ℕ} {out : List ℕ} {at : ℕ} where
+  -- two answers that this allows are the same
+  pub one-field : {o p : List ℕ} {r s : Result ℕ E} → PutsField refusal low high n out o at r → PutsField refusal low high n out p at s →
+      (r ≡ s) × (o ≡ p)
+  one-field a b = (a.place ∙ sym b.place, a.bytes ∙ sym b.bytes)
+
+  -- in every numbering of the refusal's type it is the rules' field
+  pub field-puts : (number : E → ℕ) {out' : List ℕ} {r : Result ℕ E} → PutsField refusal low high n out out' at r →
+      PutsBy number (write_field (number refusal) low high n) out out' at r
+  field-puts number {out'} {r} f = go (leb low n && leb n high) f.place f.bytes
+    where
+      go : (t : Bool) → r ≡ (if t then Ok (at + length (number_bytes n)) else Err refusal) →
+          out' ≡ (if t then sets out at (number_bytes n) else out) → PutsBy number (write_only t (number refusal) n) out out' at r
+      go true e s = record {
+        place = ap (numbered_by number) e;
+        stored = λ l d. s ∙ ap (sets out at) (written_same d);
+        long = ap length s ∙ length-sets out at (number_bytes n);
+      }
+      go false e s = record { place = ap (numbered_by number) e; stored = λ l d. written-not d; long = ap length s }
+
+-- of a plain number, whatever it is
+pub field-plain : {refusal low high n : ℕ} {out out' : List ℕ} {at : ℕ} {r : Result ℕ ℕ} → PutsField refusal low high n out out' at r →
+    (r ≡ place_after at (write_field refusal low high n))
+    × ((l : List ℕ) → write_field refusal low high n ≡ written l → out' ≡ sets out at l) × (length out' ≡ length out)
+field-plain f = let p = field-puts (λ k. k) f in (plain-place p, p.stored, p.long)
+
+-- of one of the nine
+pub field-numbered : {refusal : Refusal} {low high n : ℕ} {out out' : List ℕ} {at : ℕ} {r : Result ℕ Refusal} →
+    PutsField refusal low high n out out' at r → Puts (write_field (refusal_number refusal) low high n) out out' at r
+field-numbered f = puts-numbered (field-puts refusal_number f)
 
 module _ (out : List ℕ) (at n bound : ℕ) where
   pub below-high : bound ≤ n → Puts (write_below bound n) out out at (Err OutOfRange)

@@ -1,24 +1,24 @@
 // Fields of a record that is being made. A number out of its range is refused as the reader refuses it, and nothing is stored.
 ghost use Rattle.std.specs.Prelude.{◌+◌, ◌<◌, ◌≤◌, length};
-ghost use Rattle.rules.specs.Writer.{write_field, write_below, write_signed};
-ghost use Rattle.fields.specs.Refusals.{refusal_number};
-ghost use Rattle.writer.specs.Puts.{Puts};
+ghost use Rattle.rules.specs.Writer.{write_below, write_signed};
+ghost use Rattle.writer.specs.Puts.{Puts, PutsField};
 
 use crate::number::put_number;
 use fields::refusal::Refusal;
 use integers::unsigned_of;
 
-pub fn put_field(
+// A number from low to high; else the refusal given. It may be of any type, a plain number too.
+pub fn put_field<E: Drop>(
     out: &mut [u8],
     at: usize,
     n: u64,
     low: u64,
     high: u64,
-    refusal: Refusal,
-) -> Result<usize, Refusal>
+    refusal: E,
+) -> Result<usize, E>
     requires fact_1 { at + 5 ≤ length out.old }
     requires fact_2 { high < 4_294_967_296 }
-    ensures { Puts (write_field (refusal_number refusal) low high n) out.old out.new at result }
+    ensures { PutsField refusal low high n out.old out.new at result }
 {
     if n < low || high < n {
         return Err(refusal);

@@ -1,7 +1,7 @@
 -- Field after field, each at the place after the one before.
 use Rattle.std.proofs.Common.{◌*◌, ◌&&◌, leb, ltb, pos, get_or, refl, rules, arith}
 use Rattle.rules.specs.Writer.{write_coefficient, write_value}
-use Rattle.writer.specs.Puts.{near, puts-stopped, puts_then, puts-signed, only-short, all_short, signed-short}
+use Rattle.writer.specs.Puts.{field-numbered, near, puts-stopped, puts_then, puts-signed, only-short, all_short, signed-short}
 use Rattle.writer.specs.Rows.{part_as}
 use Rattle.writer.specs.Givens.{atom_of, below_as, field-as}
 use Rattle.writer.proofs.conditions.put_atom.Goals as goal
@@ -12,7 +12,7 @@ returns-in_err-after_row c =
     let row = part_as write_coefficient (pos 0) a.given.now.coefficients 4 (a.slot * 4) (omega arith)
     (omega arith) c.in_err-after_row.ensures in
     puts_then (below_as a.measures c.from-measure.ensures c.in_ok-after_measure.ensures) refl
-    (puts_then (field-as 3 1 6 c.from-operator.ensures c.in_ok-after_operator.ensures) refl
+    (puts_then (field-as 3 1 6 c.from-operator.ensures (field-numbered c.in_ok-after_operator.ensures)) refl
     (puts-stopped row (write_value (get_or a.given.now.constant a.slot (pos 0))) refl c.from_residual-in_err-after_row.ensures.1))
 
 pub put_signed-requires-clause-fact_1 : goal.put_signed-requires-clause-fact_1
@@ -20,7 +20,7 @@ put_signed-requires-clause-fact_1 c =
     let a = c.args in
     let atom = atom_of a.given.now a.slot in
     let one = below_as a.measures c.from-measure.ensures c.in_ok-after_measure.ensures in
-    let two = field-as 3 1 6 c.from-operator.ensures c.in_ok-after_operator.ensures in
+    let two = field-as 3 1 6 c.from-operator.ensures (field-numbered c.in_ok-after_operator.ensures) in
     let three = part_as write_coefficient (pos 0) a.given.now.coefficients 4 (a.slot * 4) (omega arith)
     (omega arith) c.in_ok-after_row.ensures in
     omega (
@@ -40,5 +40,5 @@ returns c =
     let row = part_as write_coefficient (pos 0) a.given.now.coefficients 4 (a.slot * 4) (omega arith)
     (omega arith) c.in_ok-after_row.ensures in
     puts_then (below_as a.measures c.from-measure.ensures c.in_ok-after_measure.ensures) refl
-    (puts_then (field-as 3 1 6 c.from-operator.ensures c.in_ok-after_operator.ensures) refl
+    (puts_then (field-as 3 1 6 c.from-operator.ensures (field-numbered c.in_ok-after_operator.ensures)) refl
     (puts_then row refl (puts-signed 1_000_000 (get_or a.given.now.constant a.slot (pos 0)) (search rules) c.put_signed.ensures)))

@@ -2,7 +2,7 @@
 use Rattle.std.proofs.Common.{◌≡◌, ◌&&◌, List, ℕ, ◌*◌, ◌≤◌, leb, ℤ, pos, get_or, length, refl, arith}
 use Rattle.rules.specs.Writer.{written, ◌then◌, all-written, write_coefficient, write_value}
 use Rattle.condition.specs.From.{from, from-many}
-use Rattle.writer.specs.Puts.{near, puts-stopped, puts_then, only-short, all_short, signed-short}
+use Rattle.writer.specs.Puts.{field-numbered, near, puts-stopped, puts_then, only-short, all_short, signed-short}
 use Rattle.writer.specs.Rows.{part_as, whole_as}
 use Rattle.writer.specs.Givens.{field-in}
 use Rattle.writer.specs.Openings.{values_given, opening-put}
@@ -15,24 +15,25 @@ pub returns-in_err-after_count : goal.returns-in_err-after_count
 returns-in_err-after_count c =
     let a = c.args in
     opening-put a.coefficients.now a.values.now a.measures
-    (puts-stopped c.in_err-after_count.ensures
+    (puts-stopped (field-numbered c.in_err-after_count.ensures)
     (all-written write_coefficient (from (λ k. get_or a.coefficients.now k (pos 0)) (a.measures * 8) 0) then all-written write_value
     (values_given a.values.now)) refl c.from_residual.ensures.1)
 
 pub returns-in_err-after_rows : goal.returns-in_err-after_rows
 returns-in_err-after_rows c =
     let a = c.args in
-    let h = field-in 4 1 16 a.measures c.in_ok-after_count.ensures in
+    let one = field-numbered c.in_ok-after_count.ensures in
+    let h = field-in 4 1 16 a.measures one in
     let rows = part_as write_coefficient (pos 0) a.coefficients.now (a.measures * 8) 0 (omega arith)
     (omega arith) c.in_err-after_rows.ensures in
     opening-put a.coefficients.now a.values.now a.measures
-    (puts_then c.in_ok-after_count.ensures refl
+    (puts_then one refl
     (puts-stopped rows (all-written write_value (values_given a.values.now)) refl c.from_residual-in_err-after_rows.ensures.1))
 
 pub put_numbers-requires-2-clause-fact_1 : goal.put_numbers-requires-2-clause-fact_1
 put_numbers-requires-2-clause-fact_1 c =
     let a = c.args in
-    let one = c.in_ok-after_count.ensures in
+    let one = field-numbered c.in_ok-after_count.ensures in
     let h = field-in 4 1 16 a.measures one in
     let two = part_as write_coefficient (pos 0) a.coefficients.now (a.measures * 8) 0 (omega arith)
     (omega arith) c.in_ok-after_rows.ensures in
@@ -43,8 +44,9 @@ put_numbers-requires-2-clause-fact_1 c =
 pub returns : goal.returns
 returns c =
     let a = c.args in
-    let h = field-in 4 1 16 a.measures c.in_ok-after_count.ensures in
+    let one = field-numbered c.in_ok-after_count.ensures in
+    let h = field-in 4 1 16 a.measures one in
     let rows = part_as write_coefficient (pos 0) a.coefficients.now (a.measures * 8) 0 (omega arith)
     (omega arith) c.in_ok-after_rows.ensures in
     let values = whole_as write_value (pos 0) a.values.now 8 (omega arith) c.put_numbers-2.ensures in
-    opening-put a.coefficients.now a.values.now a.measures (puts_then c.in_ok-after_count.ensures refl (puts_then rows refl values))
+    opening-put a.coefficients.now a.values.now a.measures (puts_then one refl (puts_then rows refl values))
