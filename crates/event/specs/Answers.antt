@@ -1,5 +1,5 @@
 -- Document 01's report for each case of the code's answer, and the place after what was taken. Report and place are determined: there is one such answer.
-use Rattle.std.specs.Prelude.{◌≡◌, refl, List, [], ℕ, ◌≤◌, length, drop, Option, Some, None, Result, Ok, Err}
+use Rattle.std.specs.Prelude.{◌≡◌, refl, List, [], ℕ, ◌≤◌, length, drop, Option, Some, None, Ok, Err}
 use Rattle.std.proofs.Common.{sym, ap, ◌∙◌, arith}
 use Rattle.rules.specs.Step as rules
 use Rattle.fields.specs.Answers.{place_of}
@@ -34,11 +34,6 @@ place_is bytes rest r some l = let p = left-place bytes rest r some l in sym (pl
 
 abbrev pub placed : Report → ℕ → Option Taken
 placed report next = Some (record { report = report; next = next })
-
--- bytes that are no event are refused, and none of them is taken
-abbrev pub answered : ℕ → Result (Option Taken) Refusal → Option Taken
-answered at (Ok t) = t
-answered at (Err e) = placed (Err e) at
 
 -- a refused event, and none left, leave every number as it was
 abbrev pub Unchanged : Arrays → Arrays → Option Taken → Type 0
