@@ -1,6 +1,6 @@
 -- A host's report: the numbers for each of document 01's reports, and what numbers mean. An event's answer, told in these numbers, is the rules' report.
 use Rattle.std.specs.Prelude.{◌≡◌, refl, List, [], ℕ, ◌<◌, ◌≤◌, eqb, ltb, length, if◌then◌else◌}
-use Rattle.std.specs.Prelude.{Option, Some, None, MatchOption, unwrap_or, Ok, Err, ⊤}
+use Rattle.std.specs.Prelude.{Option, Some, None, MatchOption, unwrap_or, Result, Ok, Err, IfOk, ⊤}
 use Rattle.std.proofs.Common.{ap, sym, ◌∙◌, subst, arith, lt-ltb}
 use Rattle.rules.specs.Room.{Room}
 use Rattle.rules.specs.Step.{Outcome, done, enters, waits, on, back, accepted, refusal, nothing}
@@ -9,8 +9,7 @@ use Rattle.rules.specs.Record.{event}
 use Rattle.rules.specs.Tally.{take}
 use Rattle.rules.specs.Demands.Answers.{Answers}
 use Rattle.rules.proofs.Demands.Answers.{every-event-is-answered}
-use Rattle.fields.specs.Answers.{place_of}
-use Rattle.fields.specs.Refusals.{refusal_number}
+use Rattle.fields.specs.Answers.{numbered, place_of}
 use Rattle.fields.specs.declared.refusal.Refusal.{Refusal}
 use Rattle.room.specs.Arrays.{Arrays, room_of}
 use Rattle.room.specs.Stores.{store_of, store_after}
@@ -19,7 +18,7 @@ use Rattle.room.specs.Codes.{outcome_at, job_at, outcome_code, job_code, code-ou
 use Rattle.room.specs.Reports.{outcome_of, outcome_number, job_in, Plain}
 use Rattle.room.specs.Reports as room
 use Rattle.room.specs.declared.report.Accepted.{Accepted}
-use Rattle.event.specs.Answers.{PlainTaken, Unchanged, placed, place_in, place_is, taken_report}
+use Rattle.event.specs.Answers.{PlainTaken, Unchanged, place_in, place_is, taken_report}
 use Rattle.event.specs.Takes.{Takes}
 use Rattle.event.specs.declared.Taken.{Taken}
 use Rattle.harbour.specs.declared.report.Report.{Report}
@@ -53,31 +52,61 @@ pub record Reports (a b : Arrays) (bytes : List ℕ) (r : Report) : Type 0 where
   pub kept : Kept b
   pub same : Same (take (room_of a) bytes).result.report a b
 
--- ---- the answers of `told`
-abbrev pub told_report : room.Report → ℕ → Report
-told_report (Ok a) next = report_numbers (outcome_number a.outcome) (unwrap_or a.called 32) 0 a.evaluated next
-told_report (Err e) next = report_numbers 5 32 (refusal_number e) 0 next
+-- ---- what `told` is given: a report, whose refusal may be any number, also none of document 01's, and the place after what was taken
+abbrev pub Answer : Type 0
+Answer = Option (Result Accepted ℕ × ℕ)
 
-abbrev pub told : Option Taken → Report
-told (Some t) = told_report t.report t.next
+-- an answer of `event`, with its refusal's number
+abbrev pub answer_of : Option Taken → Answer
+answer_of (Some t) = Some (numbered t.report, t.next)
+answer_of None = None
+
+-- who is called is one of the jobs
+abbrev pub CallsJob : Accepted → Type 0
+CallsJob a = MatchOption a.called ⊤ (λ job. job < 32)
+
+abbrev pub PlainAnswer : Answer → Type 0
+PlainAnswer (Some p) = IfOk p.0 CallsJob
+PlainAnswer None = Unit {0}
+
+abbrev pub report_in : Result Accepted ℕ → rules.Report
+report_in (Ok a) = accepted (outcome_of a.outcome) (job_in a.called) a.evaluated
+report_in (Err k) = refusal k
+
+abbrev pub answer_report : Answer → rules.Report
+answer_report (Some p) = report_in p.0
+answer_report None = nothing
+
+-- 0 where nothing was taken
+abbrev pub answer_place : Answer → ℕ
+answer_place (Some p) = p.1
+answer_place None = 0
+
+-- ---- the answers of `told`
+abbrev pub told_report : Result Accepted ℕ → ℕ → Report
+told_report (Ok a) next = report_numbers (outcome_number a.outcome) (unwrap_or a.called 32) 0 a.evaluated next
+told_report (Err k) next = report_numbers 5 32 k 0 next
+
+abbrev pub told : Answer → Report
+told (Some p) = told_report p.0 p.1
 told None = report_numbers 6 32 0 0 0
 
 job-most : (called : Option ℕ) → MatchOption called ⊤ (λ job. job < 32) → unwrap_or called 32 ≤ 32
 job-most (Some job) h = omega (arith, h)
 job-most None h = omega arith
 
-pub told-job : {t : Option Taken} {a : Accepted} {next : ℕ} → t ≡ placed (Ok a) next → PlainTaken t → unwrap_or a.called 32 ≤ 32
-told-job {a = a} e h = job-most a.called (subst PlainTaken e h)
+pub told-job : {t : Answer} {a : Accepted} {next : ℕ} → t ≡ Some (Ok a, next) → PlainAnswer t → unwrap_or a.called 32 ≤ 32
+told-job {a = a} e h = job-most a.called (subst PlainAnswer e h)
 
-pub told-accepted : {t : Option Taken} {a : Accepted} {next called : ℕ} → t ≡ placed (Ok a) next → called ≡ unwrap_or a.called 32 →
+pub told-accepted : {t : Answer} {a : Accepted} {next called : ℕ} → t ≡ Some (Ok a, next) → called ≡ unwrap_or a.called 32 →
     report_numbers (outcome_number a.outcome) called 0 a.evaluated next ≡ told t
 told-accepted {a = a} {next = p} e d =
     (λ i. report_numbers (outcome_number a.outcome) (d i) 0 a.evaluated p) ∙ ap told (sym e)
 
-pub told-refused : {t : Option Taken} {k : Refusal} {next : ℕ} → t ≡ placed (Err k) next → report_numbers 5 32 (refusal_number k) 0 next ≡ told t
+pub told-refused : {t : Answer} {k next : ℕ} → t ≡ Some (Err k, next) → report_numbers 5 32 k 0 next ≡ told t
 told-refused e = ap told (sym e)
 
-pub told-nothing : {t : Option Taken} → t ≡ None → report_numbers 6 32 0 0 0 ≡ told t
+pub told-nothing : {t : Answer} → t ≡ None → report_numbers 6 32 0 0 0 ≡ told t
 told-nothing e = ap told (sym e)
 
 -- ---- and what they mean
@@ -85,11 +114,11 @@ told-called : (called : Option ℕ) → unwrap_or called 32 ≡ job_code (job_in
 told-called (Some job) = refl
 told-called None = refl
 
-told_is : (t : Option Taken) → told t ≡ host_report (taken_report t) (place_in t)
-told_is (Some t) = go t.report
+told_is : (t : Answer) → told t ≡ host_report (answer_report t) (answer_place t)
+told_is (Some p) = go p.0
   where
-    go : (w : room.Report) → told_report w t.next ≡ host_report (room.meaning w) t.next
-    go (Ok a) = λ i. report_numbers (outcome_number a.outcome) (told-called a.called i) 0 a.evaluated t.next
+    go : (w : Result Accepted ℕ) → told_report w p.1 ≡ host_report (report_in w) p.1
+    go (Ok a) = λ i. report_numbers (outcome_number a.outcome) (told-called a.called i) 0 a.evaluated p.1
     go (Err k) = refl
 told_is None = refl
 
@@ -104,15 +133,42 @@ called-at : (called : Option ℕ) → MatchOption called ⊤ (λ job. job < 32) 
 called-at (Some job) h = code-job job h
 called-at None h = refl
 
-told-means : (t : Option Taken) → PlainTaken t → report_of (told t) ≡ taken_report t
-told-means (Some t) h = go t.report h
+told-means : (t : Answer) → PlainAnswer t → report_of (told t) ≡ answer_report t
+told-means (Some p) h = go p.0 h
   where
-    go : (w : room.Report) → Plain w → report_of (told_report w t.next) ≡ room.meaning w
-    go (Ok a) p =
+    go : (w : Result Accepted ℕ) → IfOk w CallsJob → report_of (told_report w p.1) ≡ report_in w
+    go (Ok a) h =
         rw (lt-ltb (outcome_number a.outcome) 5 (code-below (outcome_of a.outcome)))
-        (λ i. accepted (code-outcome (outcome_of a.outcome) i) (called-at a.called p i) a.evaluated)
-    go (Err k) p = refl
+        (λ i. accepted (code-outcome (outcome_of a.outcome) i) (called-at a.called h i) a.evaluated)
+    go (Err k) h = refl
 told-means None h = refl
+
+-- ---- of an answer of `event`: it may be told, and what is told is its report and its place
+pub plain-answer : (t : Option Taken) → PlainTaken t → PlainAnswer (answer_of t)
+plain-answer (Some t) h = go t.report h
+  where
+    go : (w : room.Report) → Plain w → IfOk (numbered w) CallsJob
+    go (Ok a) p = p
+    go (Err k) p = tt
+plain-answer None h = tt
+
+answer-means : (t : Option Taken) → answer_report (answer_of t) ≡ taken_report t
+answer-means (Some t) = go t.report
+  where
+    go : (w : room.Report) → report_in (numbered w) ≡ room.meaning w
+    go (Ok a) = refl
+    go (Err k) = refl
+answer-means None = refl
+
+answer-at : (t : Option Taken) → answer_place (answer_of t) ≡ place_in t
+answer-at (Some t) = refl
+answer-at None = refl
+
+pub told-event : (t : Option Taken) → told (answer_of t) ≡ host_report (taken_report t) (place_in t)
+told-event t = told_is (answer_of t) ∙ (λ i. host_report (answer-means t i) (answer-at t i))
+
+pub told-event-means : (t : Option Taken) → PlainTaken t → report_of (told (answer_of t)) ≡ taken_report t
+told-event-means t h = told-means (answer_of t) (plain-answer t h) ∙ answer-means t
 
 same-as : (a b : Arrays) (t : Option Taken) → Unchanged a b t → Same (taken_report t) a b
 same-as a b (Some t) u = go t.report u
@@ -135,10 +191,11 @@ place-told {a} {bytes = bytes} None k =
 place-told {bytes = bytes} (Some t) k = place_is bytes _ (Some t) (λ e. let z : ◌≡◌ {A = ℕ} 0 1 = cc in omega arith) k.rest
 
 -- what `event` promises, told
-pub reports : {a b : Arrays} {bytes : List ℕ} {t : Option Taken} {r : Report} → Takes a b bytes 0 t → r ≡ told t → Reports a b bytes r
+pub reports : {a b : Arrays} {bytes : List ℕ} {t : Option Taken} {r : Report} → Takes a b bytes 0 t → r ≡ told (answer_of t) →
+    Reports a b bytes r
 reports {a} {b} {bytes} {t} {r} k e = record {
-  report = e ∙ told_is t ∙ (λ i. host_report (k.report i) (place-told t k i));
-  means = ap report_of e ∙ told-means t k.plain ∙ k.report;
+  report = e ∙ told-event t ∙ (λ i. host_report (k.report i) (place-told t k i));
+  means = ap report_of e ∙ told-event-means t k.plain ∙ k.report;
   room = k.room;
   store = k.store;
   kept = k.kept;

@@ -1,4 +1,5 @@
 // An opening and an event of a room, told in a host's numbers: what `harbour_open` and `harbour_event` do, named in docs/PROMISES.md.
+ghost use Rattle.std.specs.Prelude.{◌≡◌};
 ghost use Rattle.room.specs.Kept.{Kept};
 ghost use Rattle.harbour.specs.Rooms.{arrays_of};
 ghost use Rattle.harbour.specs.Openings.{OpensRoom};
@@ -17,7 +18,8 @@ pub fn take_opening(room: &mut Room, bytes: &[u8]) -> Opened
 
 pub fn take_event(room: &mut Room, bytes: &[u8]) -> Report
     requires { Kept (arrays_of room.old) }
-    ensures { Reports (arrays_of room.old) (arrays_of room.new) bytes.now result }
+    ensures reports { Reports (arrays_of room.old) (arrays_of room.new) bytes.now result }
+    ensures fixed { (room.new.shared.coefficients ≡ room.old.shared.coefficients) × (room.new.measures ≡ room.old.measures) }
 {
-    told(event(room, bytes, 0))
+    told(event(room, bytes, 0).map(|taken| (taken.report.map_err(u8::from), taken.next)))
 }

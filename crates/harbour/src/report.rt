@@ -2,12 +2,11 @@
 ghost use Rattle.std.specs.Prelude.{◌≡◌};
 ghost use Rattle.rules.specs.Tally.{ones, backs};
 ghost use Rattle.room.specs.Codes.{outcome_at, job_at};
-ghost use Rattle.event.specs.Answers.{PlainTaken};
 ghost use Rattle.harbour.specs.Openings.{told_opening};
-ghost use Rattle.harbour.specs.Reports.{told as told_of};
+ghost use Rattle.harbour.specs.Reports.{told as told_of, PlainAnswer};
 ghost use Rattle.harbour.specs.Tallies.{noted_tally};
 
-use event::Taken;
+use room::report::Accepted;
 use tally::Tally;
 
 // Outcomes: 0 done, 1 in, 2 waits, 3 on, 4 back, 5 refused, 6 none left. Numbers for outcomes, jobs and refusals are the C interface.
@@ -53,12 +52,13 @@ impl From<Result<(u64, usize), u8>> for Opened {
     }
 }
 
-// In C's numbers. No `From`, since it asks that a called job is one of the 32.
-pub fn told(answer: Option<Taken>) -> Report
-    requires { PlainTaken answer }
+// An answer of `event` in C's numbers. The refusal is a number and no `Refusal`, since any number is handed on, as by `Opened`'s `From`.
+// No `From` here: it asks that a called job is one of the 32.
+pub fn told(answer: Option<(Result<Accepted, u8>, usize)>) -> Report
+    requires { PlainAnswer answer }
     ensures { result ≡ told_of answer }
 {
-    let Some(taken) = answer else {
+    let Some((report, next)) = answer else {
         return Report {
             outcome: 6,
             job: 32,
@@ -67,20 +67,20 @@ pub fn told(answer: Option<Taken>) -> Report
             taken: 0,
         };
     };
-    match taken.report {
+    match report {
         Ok(accepted) => Report {
             outcome: u8::from(accepted.outcome),
             job: accepted.called.unwrap_or(32) as u8,
             refusal: 0,
             count: accepted.evaluated as u64,
-            taken: taken.next as u64,
+            taken: next as u64,
         },
         Err(refusal) => Report {
             outcome: 5,
             job: 32,
-            refusal: u8::from(refusal),
+            refusal,
             count: 0,
-            taken: taken.next as u64,
+            taken: next as u64,
         },
     }
 }

@@ -21,7 +21,8 @@ fn is_last(refusal: Refusal) -> bool
 // The events stand in the input from `from` on. They end where no event is left, so they are counted by hand.
 pub fn write_events(out: &mut [u8], room: &mut Room, input: &[u8], from: usize, at: usize) -> usize
     requires { Kept (arrays_of room.old) }
-    ensures { Writes (output out.old at) (output out.new result) (lines_from input.now from 1 0 (arrays_of room.old)) }
+    ensures written { Writes (output out.old at) (output out.new result) (lines_from input.now from 1 0 (arrays_of room.old)) }
+    ensures fixed { (room.new.shared.coefficients ≡ room.old.shared.coefficients) × (room.new.measures ≡ room.old.measures) }
 {
     let mut place = from;
     let mut next = at;

@@ -6,7 +6,7 @@ pub write_events-requires : goal.write_events-requires
 write_events-requires c = stream-kept c.args.input.now c.open.ensures c.in-Ok.is
 
 pub returns-in-Ok : goal.returns-in-Ok
-returns-in-Ok c = stream-written c.args.input.now c.open.ensures c.in-Ok.is c.put_line-next.ensures c.write_events.ensures
+returns-in-Ok c = stream-written c.args.input.now c.open.ensures c.in-Ok.is c.put_line-next.ensures c.write_events.ensures.written
 
 pub returns-in-Err : goal.returns-in-Err
 returns-in-Err c = stream-refused c.args.input.now c.open.ensures c.in-Err.is c.put_refusal.ensures
