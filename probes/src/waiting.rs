@@ -148,7 +148,7 @@ impl Crowd {
         self.opening.values[variable] = value;
     }
 
-    /// What both implementations find. The search changes nothing.
+    /// What both implementations find. The search changes nothing that it was lent.
     pub fn search(&mut self) -> Search {
         let before = self.index.arrays().clone();
         let answer = self.index.search();

@@ -8,6 +8,7 @@ pub mod author;
 pub mod board;
 pub mod broken;
 pub mod compare;
+pub mod kept;
 pub mod pair;
 pub mod run;
 pub mod seen;

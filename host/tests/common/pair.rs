@@ -10,7 +10,7 @@ use second::report::{Outcome, Report};
 use second::room::Room;
 use second::write;
 
-use super::compare;
+use super::{compare, kept};
 
 pub struct Pair {
     /// Written by the library, but for the next ticket of a room in which nobody waits yet.
@@ -18,7 +18,7 @@ pub struct Pair {
     pub tally: Tally,
     pub second: Room,
     second_tally: second::tally::Tally,
-    /// Where a room is kept while an event is refused.
+    /// The room as it was before an event.
     kept: Box<c::Room>,
 }
 
@@ -90,9 +90,7 @@ impl Pair {
     pub fn event(&mut self, bytes: &[u8]) -> Result<Report, String> {
         let right = self.second.event(&mut self.second_tally, bytes);
         let accepted = !matches!(right.outcome, Outcome::Refused(_) | Outcome::NoneLeft);
-        if !accepted {
-            self.kept.clone_from(&self.room);
-        }
+        self.kept.clone_from(&self.room);
         // SAFETY: all are borrowed here, and the room is as an opening and events leave it.
         let report = unsafe {
             harbour_event(
@@ -105,8 +103,10 @@ impl Pair {
         compare::reports(&report, &right)?;
         compare::rooms(&self.room, &self.second)?;
         compare::tallies(&self.tally, &self.second_tally)?;
-        if !accepted && self.kept != self.room {
-            return Err("an event that was not accepted changed the room".to_string());
+        match accepted {
+            true => kept::all_else(&self.kept, &self.room, &right)?,
+            false if self.kept == self.room => {}
+            false => return Err("an event that was not accepted changed the room".to_string()),
         }
         Ok(right)
     }
