@@ -1,5 +1,5 @@
-//! That an accepted event leaves all else as it was is looked at after every event of every test
-//! (`common/kept.rs`); here, that a change would be seen.
+//! That an accepted event leaves all else as it was is looked at after every event given through
+//! `Pair` (`common/kept.rs`); here, that a change would be seen.
 
 mod common;
 

@@ -52,7 +52,7 @@ pub struct Index {
 // All as plain pointers, also to what is only read: that it stays as it was is for a test to find
 // out, and not for Rust to take for granted. A probe works on copies, and puts back places, lengths
 // and entries; what joining, parting and a search leave alone in a room's own memory, the host's
-// tests look at after each event (host/tests/common/kept.rs).
+// tests look at after each event that they give through `Pair` (host/tests/common/kept.rs).
 extern "C" {
     fn probe_words(
         high: *mut [u64; NODES],
